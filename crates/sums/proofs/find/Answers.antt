@@ -6,9 +6,6 @@ use Rattle.sums.proofs.find.Goals as goal
 pub loop-e-init : goal.loop-e-init
 loop-e-init c = rw (c.from-e.ensures, c.bucket.ensures.0) (walk_start _ _ _ _ c.requires)
 
-pub overflow_sub-e : goal.overflow_sub-e
-overflow_sub-e c = let w = walk_in _ _ _ _ _ c.requires c.loop-e.invariant c.loop-e-test.true in omega arith
-
 pub overflow_mul-e : goal.overflow_mul-e
 overflow_mul-e c = let w = walk_in _ _ _ _ _ c.requires c.loop-e.invariant c.loop-e-test.true in omega arith
 
