@@ -25,14 +25,6 @@ returns-then-not-is_declared c = λ w.
           c.second-name.result c.second-name.ensures b.if-tables-base-ne0.true
     ])
 
-pub is_state-requires : goal.is_state-requires
-is_state-requires c = record {
-  P = c.requires.P;
-  k = c.requires.k;
-  lookups = c.requires.working.lookups;
-  known = sym (c.is_declared.ensures c.requires.P c.requires.count_is) ∙ search rules;
-}
-
 pub returns-then-is_state : goal.returns-then-is_state
 returns-then-is_state c = λ w.
     let known : is_declared_type (world w.P) (type_of_number c.first-t.result) ≡ true =

@@ -1,16 +1,12 @@
 -- `members::methods::check_effect` meets its contract. Assumes nothing.
-use Rattle.std.proofs.Common.{arith}
 use Rattle.members.proofs.Checks.{same_fault}
-use Rattle.members.proofs.Tables.{effect_undeclared, effect_index, effect_no_root, effect_order}
+use Rattle.members.proofs.Tables.{effect_undeclared, effect_no_root, effect_order}
 use Rattle.members.proofs.Tables.{effect_fine}
 use Rattle.members.proofs.methods.check_effect.Goals as goal
 use Rattle.members.proofs.methods.check_effect.Goals.{then-class_entry-ne-ROOT_KIND-via-then-class_entry-ne-ROOT_KIND, then-class_entry-ne-ROOT_KIND-via-else-class_entry-ne-ROOT_KIND+then-c-last}
 
 pub returns-then-count-c : goal.returns-then-count-c
 returns-then-count-c c = λ w. same_fault c.args.line (effect_undeclared w c.args.c c.args.last c.if-count-c.true)
-
-pub class_entry-requires : goal.class_entry-requires
-class_entry-requires c = omega (arith, effect_index c.requires c.args.c c.args.last c.if-count-c.false)
 
 pub returns-then-class_entry-ne-ROOT_KIND : goal.returns-then-class_entry-ne-ROOT_KIND
 returns-then-class_entry-ne-ROOT_KIND c = λ w. same_fault c.args.line (elim c.then-class_entry-ne-ROOT_KIND.branch [

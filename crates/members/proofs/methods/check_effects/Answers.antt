@@ -1,14 +1,11 @@
 -- `members::methods::check_effects` meets its contract. Assumes nothing.
 use Rattle.std.proofs.Common.{arith, rules, ◌≡◌, ◌∙◌, Err}
-use Rattle.members.proofs.Loops.{effects_index, effects_end, effecting_start, effecting_refused, effecting_step}
+use Rattle.members.proofs.Loops.{effects_index, effects_end, effecting_refused, effecting_step}
 use Rattle.members.proofs.Loops.{effecting_end}
 use Rattle.members.proofs.methods.check_effects.Goals as goal
 
 pub overflow_add-at-end : goal.overflow_add-at-end
 overflow_add-at-end c = grind (arith, effects_end c.requires.lines)
-
-pub loop-at-init : goal.loop-at-init
-loop-at-init c = λ w. effecting_start w.lines w.table.P
 
 pub first-c-requires : goal.first-c-requires
 first-c-requires c =
@@ -23,9 +20,6 @@ pub overflow_add-at : goal.overflow_add-at
 overflow_add-at c =
     let j = effects_index c.requires.lines c.loop-at.at c.loop-at.auto.at c.loop-at-test.true in
     omega (arith, j.0, j.1)
-
-pub check_effect-requires : goal.check_effect-requires
-check_effect-requires c = c.requires.table
 
 pub returns-in_err-check_effect : goal.returns-in_err-check_effect
 returns-in_err-check_effect c = λ w.

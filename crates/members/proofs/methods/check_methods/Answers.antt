@@ -8,23 +8,18 @@ use Rattle.members.proofs.Entering.{entering_done}
 use Rattle.members.proofs.methods.check_methods.Goals as goal
 
 pub loop-tables-init : goal.loop-tables-init
-loop-tables-init c = record {
-  tables_long = refl;
-  methods_long = refl;
-  effects_long = refl;
-  entering = λ w. entering_start w;
-}
+loop-tables-init c = λ w. entering_start w
 
 pub letter_at-requires : goal.letter_at-requires
-letter_at-requires c = omega (arith, entering_within c.requires (c.loop-tables.invariant.entering c.requires))
+letter_at-requires c = omega (arith, entering_within c.requires (c.loop-tables.invariant c.requires))
 
 pub check_method-requires : goal.check_method-requires
-check_method-requires c = entering_ready c.requires (c.loop-tables.invariant.entering c.requires)
+check_method-requires c = entering_ready c.requires (c.loop-tables.invariant c.requires)
     (sym c.letter_at.ensures ∙ c.loop-tables-test.true)
 
 pub returns-in_err-check_method : goal.returns-in_err-check_method
 returns-in_err-check_method c = λ w.
-    let p = c.loop-tables.invariant.entering w in
+    let p = c.loop-tables.invariant w in
     let l = sym c.letter_at.ensures ∙ c.loop-tables-test.true in
     let e : c.from_residual.result ≡ Err c.in_err-check_method.field-0.0 = search rules in (
       e ∙ entering_refused w p l _ (c.in_err-check_method.ensures (entering_ready w p l)).0,
@@ -32,45 +27,40 @@ returns-in_err-check_method c = λ w.
     )
 
 pub skip_method-at-requires : goal.skip_method-at-requires
-skip_method-at-requires c = entering_here c.requires (c.loop-tables.invariant.entering c.requires)
+skip_method-at-requires c = entering_here c.requires (c.loop-tables.invariant c.requires)
     (sym c.letter_at.ensures ∙ c.loop-tables-test.true)
 
 pub overflow_add-next : goal.overflow_add-next
 overflow_add-next c =
-    let j = entering_count c.requires (c.loop-tables.invariant.entering c.requires) in omega (arith, j.0, j.1)
+    let j = entering_count c.requires (c.loop-tables.invariant c.requires) in omega (arith, j.0, j.1)
 
 pub loop-tables-smaller : goal.loop-tables-smaller
 loop-tables-smaller c =
-    let p = c.loop-tables.invariant.entering c.requires in
+    let p = c.loop-tables.invariant c.requires in
     let g = entering_grows c.requires p (sym c.letter_at.ensures ∙ c.loop-tables-test.true)
     c.skip_method-at.result c.skip_method-at.ensures in
     let s = entering_within c.requires p in
     omega (arith, g, s)
 
 pub loop-tables-preserved : goal.loop-tables-preserved
-loop-tables-preserved c = record {
-  tables_long = c.check_method.auto.tables ∙ c.loop-tables.invariant.tables_long;
-  methods_long = c.check_method.auto.methods ∙ c.loop-tables.invariant.methods_long;
-  effects_long = c.check_method.auto.effects ∙ c.loop-tables.invariant.effects_long;
-  entering = λ w.
-      let p = c.loop-tables.invariant.entering w in
-      let l = sym c.letter_at.ensures ∙ c.loop-tables-test.true in
-      let y = c.in_ok-check_method.ensures (entering_ready w p l) in
-      entering_step w p l y.0 _ _ _ (y.1 refl) _ c.skip_method-at.ensures;
-}
+loop-tables-preserved c = λ w.
+    let p = c.loop-tables.invariant w in
+    let l = sym c.letter_at.ensures ∙ c.loop-tables-test.true in
+    let y = c.in_ok-check_method.ensures (entering_ready w p l) in
+    entering_step w p l y.0 _ _ _ (y.1 refl) _ c.skip_method-at.ensures
 
 pub overflow_sub-result : goal.overflow_sub-result
 overflow_sub-result c =
-    let j = entering_count c.requires (c.loop-tables.invariant.entering c.requires) in omega (arith, j.0, j.1)
+    let j = entering_count c.requires (c.loop-tables.invariant c.requires) in omega (arith, j.0, j.1)
 
 pub overflow_cast-result : goal.overflow_cast-result
 overflow_cast-result c =
-    let j = entering_count c.requires (c.loop-tables.invariant.entering c.requires) in omega (arith, j.0, j.1)
+    let j = entering_count c.requires (c.loop-tables.invariant c.requires) in omega (arith, j.0, j.1)
 
 pub returns : goal.returns
 returns c = λ w. (
-  entering_end w (c.loop-tables.invariant.entering w) (λ e. c.loop-tables-test.false (c.letter_at.ensures ∙ e)),
+  entering_end w (c.loop-tables.invariant w) (λ e. c.loop-tables-test.false (c.letter_at.ensures ∙ e)),
   λ n e.
-      entering_done w (c.loop-tables.invariant.entering w)
+      entering_done w (c.loop-tables.invariant w)
       (λ e. c.loop-tables-test.false (c.letter_at.ensures ∙ e)),
 )

@@ -1,5 +1,4 @@
 -- `members::methods::check_methods` meets its contract. Assumes nothing.
-use mathlib.Core.Path.{◌≡◌}
 use Prim.Native.Nat.{◌-◌}
 use lib.ListN.{length}
 use Rattle.members.proofs.Entering.{Entering}
@@ -7,14 +6,9 @@ use Rattle.members.specs.Ready.{MethodsReady}
 use Rattle.members.proofs.methods.check_methods.Given as goal
 
 abbrev pub invariant-loop-tables : goal.invariant-loop-tables
-invariant-loop-tables l = record {
-  tables_long : length l.tables ≡ length l.initial.tables;
-  methods_long : length l.methods ≡ length l.initial.methods;
-  effects_long : length l.effects ≡ length l.initial.effects;
-  entering : (w : MethodsReady l.rows l.ends l.initial.tables l.initial.methods l.initial.effects l.r l.k l.first
-      l.count)
-      → Entering w l.tables l.methods l.effects l.at l.next;
-}
+invariant-loop-tables l =
+    (w : MethodsReady l.rows l.ends l.initial.tables l.initial.methods l.initial.effects l.r l.k l.first l.count)
+    → Entering w l.tables l.methods l.effects l.at l.next
 
 abbrev pub decreases-loop-tables : goal.decreases-loop-tables
 decreases-loop-tables l = length l.rows - l.at

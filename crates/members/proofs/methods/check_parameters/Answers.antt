@@ -1,14 +1,11 @@
 -- `members::methods::check_parameters` meets its contract. Assumes nothing.
 use Rattle.std.proofs.Common.{arith, rules}
-use Rattle.members.proofs.Loops.{types_index, types_end, declaring_start, declaring_refused, declaring_step}
+use Rattle.members.proofs.Loops.{types_index, types_end, declaring_refused, declaring_step}
 use Rattle.members.proofs.Loops.{declaring_end}
 use Rattle.members.proofs.methods.check_parameters.Goals as goal
 
 pub overflow_add-at-end : goal.overflow_add-at-end
 overflow_add-at-end c = grind (arith, types_end c.requires)
-
-pub loop-at-init : goal.loop-at-init
-loop-at-init c = λ w P e. declaring_start w P
 
 pub first-requires : goal.first-requires
 first-requires c =

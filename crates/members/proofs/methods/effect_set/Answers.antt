@@ -1,14 +1,11 @@
 -- `members::methods::effect_set` meets its contract. Assumes nothing.
 use Rattle.std.proofs.Common.{arith}
-use Rattle.members.proofs.Loops.{effects_index, effects_end, collecting_start, collecting_class}
+use Rattle.members.proofs.Loops.{effects_index, effects_end, collecting_class}
 use Rattle.members.proofs.Loops.{collecting_more, collecting_end}
 use Rattle.members.proofs.methods.effect_set.Goals as goal
 
 pub overflow_add-at-end : goal.overflow_add-at-end
 overflow_add-at-end c = grind (arith, effects_end c.requires.lines)
-
-pub loop-at-init : goal.loop-at-init
-loop-at-init c = λ w. collecting_start w
 
 pub first-requires : goal.first-requires
 first-requires c =

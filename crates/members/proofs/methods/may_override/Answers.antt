@@ -4,9 +4,9 @@ use mathlib.Core.Bool.{Bool, false≢true}
 use borrow.Author.Tests.{eqb-true, eqb-false}
 use Rattle.language.specs.Headings.{same_types}
 use Rattle.members.specs.Ready.{ParameterLines}
-use Rattle.members.proofs.MethodLaws.{override_index, own_within, override_result, override_count}
+use Rattle.members.proofs.MethodLaws.{override_index, override_result, override_count}
 use Rattle.members.proofs.MethodLaws.{own_types, over_types}
-use Rattle.members.proofs.MethodLaws.{override_types, own_lines, override_within}
+use Rattle.members.proofs.MethodLaws.{override_types, override_within}
 use Rattle.members.proofs.methods.may_override.Goals as goal
 use Rattle.members.proofs.methods.may_override.Goals.{then-first, else-first, then-from-np, else-from-np}
 
@@ -18,9 +18,6 @@ offset_bounds-methods-n c = let i = override_index c.requires in omega (arith, i
 
 pub bounds-methods-n : goal.bounds-methods-n
 bounds-methods-n c = let i = override_index c.requires in omega (arith, i.0)
-
-pub first-requires : goal.first-requires
-first-requires c = let j = own_within c.requires in omega (arith, j.0)
 
 pub first-requires-2 : goal.first-requires-2
 first-requires-2 c = let i = override_index c.requires in omega (arith, i.2)
@@ -36,10 +33,6 @@ offset_bounds-methods-n-then-first c = let i = override_index c.requires in omeg
 
 pub bounds-methods-n-then-first : goal.bounds-methods-n-then-first
 bounds-methods-n-then-first c = let i = override_index c.requires in omega (arith, i.0)
-
-pub overflow_add-over : goal.overflow_add-over
-overflow_add-over c =
-    let i = override_index c.requires in let j = own_within c.requires in omega (arith, i.2, j.2)
 
 pub same_types-requires : goal.same_types-requires
 same_types-requires c =
@@ -60,30 +53,6 @@ offset_bounds-effects-n c = let i = override_index c.requires in omega (arith, i
 
 pub bounds-effects-n : goal.bounds-effects-n
 bounds-effects-n c = let i = override_index c.requires in omega (arith, i.1)
-
-pub lines_within-requires : goal.lines_within-requires
-lines_within-requires c =
-    let second : c.first-2.result ≡ get_or c.args.rows.now (get_or c.args.methods.now (c.args.n * 4) 0 * 4 + 1) 0 =
-    rw c.from-over.ensures at c.first-2.ensures in
-    let tested : (c.if-first.value ≡ true) × (b : Bool) × (b ≡ true)
-    × ((v : ParameterLines c.args.rows.now (c.args.r + 1) c.args.np)
-    → (u : ParameterLines c.args.rows.now (get_or c.args.methods.now (c.args.n * 4) 0 + 1) c.args.np)
-    → b ≡ same_types v.types u.types) =
-    elim c.if-from-np.branch [
-      | then-from-np b ↦ (
-        b.if-from-np.true,
-        b.same_types.result,
-        sym b.value-is ∙ c.if-same_types.true,
-        rw c.from-over.ensures at b.same_types.ensures,
-      )
-      | else-from-np b ↦ absurd (false≢true (sym b.if-from-np.false ∙ (sym b.value-is ∙ c.if-same_types.true)))
-    ] in
-    let same : (c.first.result ≡ c.first-2.result) × (get_or c.args.methods.now (c.args.n * 4 + 2) 0 ≡ c.args.np) =
-    elim c.if-first.branch [
-      | then-first a ↦ (a.if-first.true, sym a.from.ensures ∙ eqb-true _ _ (sym a.value-is ∙ tested.0))
-      | else-first a ↦ absurd (a.if-first.false (eqb-true _ _ (sym a.value-is ∙ tested.0)))
-    ] in
-    own_lines c.requires _ _ c.first.ensures second same.0 same.1 tested.1 tested.3
 
 pub returns-then-same_types : goal.returns-then-same_types
 returns-then-same_types c = λ w.
