@@ -24,14 +24,6 @@ pub second-over-requires : goal.second-over-requires
 second-over-requires c =
     let j = going_index c.requires (c.loop-k.invariant c.requires) c.loop-k-test.true in omega (arith, j.0)
 
-pub overflow_cast-k : goal.overflow_cast-k
-overflow_cast-k c =
-    let j = going_index c.requires (c.loop-k.invariant c.requires) c.loop-k-test.true in omega (arith, j.3)
-
-pub effect_of-requires : goal.effect_of-requires
-effect_of-requires c =
-    let j = going_index c.requires (c.loop-k.invariant c.requires) c.loop-k-test.true in omega (arith, j.3)
-
 pub bounds-above-over : goal.bounds-above-over
 bounds-above-over c =
     let p = c.loop-k.invariant c.requires in
@@ -39,10 +31,6 @@ bounds-above-over c =
     let h = super_earlier c.requires p c.loop-k-test.true _ _ _ _
     (λ v. let y = c.in_ok-many.ensures v in (y.0, y.1 _ refl)) _ c.second-over.ensures in
     omega (arith, j.2, h)
-
-pub bounds-above-k : goal.bounds-above-k
-bounds-above-k c =
-    let j = going_index c.requires (c.loop-k.invariant c.requires) c.loop-k-test.true in omega (arith, j.2)
 
 pub skip_class-r-requires : goal.skip_class-r-requires
 skip_class-r-requires c = going_here c.requires (c.loop-k.invariant c.requires) c.loop-k-test.true

@@ -12,56 +12,19 @@ loop-k-init c = λ w. reading_start w
 pub letter_at-requires : goal.letter_at-requires
 letter_at-requires c = omega (arith, (reading_index c.requires (c.loop-k.invariant c.requires)).0)
 
-pub overflow_add-k : goal.overflow_add-k
-overflow_add-k c = let b = reading_bounds c.requires (c.loop-k.invariant c.requires)
-    (sym c.letter_at.ensures ∙ c.loop-k-test.true) in omega (arith, b.0)
-
-pub first-requires : goal.first-requires
-first-requires c = omega (arith, (reading_index c.requires (c.loop-k.invariant c.requires)).0)
-
 pub overflow_cast-tables : goal.overflow_cast-tables
 overflow_cast-tables c = let b = reading_bounds c.requires (c.loop-k.invariant c.requires)
     (sym c.letter_at.ensures ∙ c.loop-k-test.true) in
     omega (arith, b.2, c.first.ensures)
 
-pub overflow_mul-tables : goal.overflow_mul-tables
-overflow_mul-tables c = let b = reading_bounds c.requires (c.loop-k.invariant c.requires)
-    (sym c.letter_at.ensures ∙ c.loop-k-test.true) in omega (arith, b.0)
-
-pub overflow_add-tables : goal.overflow_add-tables
-overflow_add-tables c = let b = reading_bounds c.requires (c.loop-k.invariant c.requires)
-    (sym c.letter_at.ensures ∙ c.loop-k-test.true) in omega (arith, b.0)
-
-pub offset_bounds-tables-k : goal.offset_bounds-tables-k
-offset_bounds-tables-k c = let b = reading_bounds c.requires (c.loop-k.invariant c.requires)
-    (sym c.letter_at.ensures ∙ c.loop-k-test.true) in omega (arith, b.0)
-
 pub bounds-tables-k : goal.bounds-tables-k
 bounds-tables-k c = let b = reading_bounds c.requires (c.loop-k.invariant c.requires)
     (sym c.letter_at.ensures ∙ c.loop-k-test.true) in omega (arith, b.1)
-
-pub second-requires : goal.second-requires
-second-requires c = omega (arith, (reading_index c.requires (c.loop-k.invariant c.requires)).0)
 
 pub overflow_cast-tables-in-loop-k : goal.overflow_cast-tables-in-loop-k
 overflow_cast-tables-in-loop-k c = let b = reading_bounds c.requires (c.loop-k.invariant c.requires)
     (sym c.letter_at.ensures ∙ c.loop-k-test.true) in
     omega (arith, b.3, c.second.ensures)
-
-pub overflow_mul-tables-in-loop-k : goal.overflow_mul-tables-in-loop-k
-overflow_mul-tables-in-loop-k c = let b = reading_bounds c.requires (c.loop-k.invariant c.requires)
-    (sym c.letter_at.ensures ∙ c.loop-k-test.true) in
-    omega (arith, b.0)
-
-pub overflow_add-tables-in-loop-k : goal.overflow_add-tables-in-loop-k
-overflow_add-tables-in-loop-k c = let b = reading_bounds c.requires (c.loop-k.invariant c.requires)
-    (sym c.letter_at.ensures ∙ c.loop-k-test.true) in
-    omega (arith, b.0)
-
-pub offset_bounds-tables-k-in-loop-k : goal.offset_bounds-tables-k-in-loop-k
-offset_bounds-tables-k-in-loop-k c = let b = reading_bounds c.requires (c.loop-k.invariant c.requires)
-    (sym c.letter_at.ensures ∙ c.loop-k-test.true) in
-    omega (arith, b.0)
 
 pub bounds-tables-k-in-loop-k : goal.bounds-tables-k-in-loop-k
 bounds-tables-k-in-loop-k c = let b = reading_bounds c.requires (c.loop-k.invariant c.requires)
@@ -83,9 +46,6 @@ loop-k-preserved c = λ w. reading_step w (c.loop-k.invariant w)
     c.first.result c.second.result c.first.ensures
     c.second.ensures _ refl
     c.skip_class-r.result c.skip_class-r.ensures
-
-pub shape_of-tables : goal.shape_of-tables
-shape_of-tables c = (c.loop-k.invariant c.requires).long
 
 pub returns : goal.returns
 returns c = λ w. (

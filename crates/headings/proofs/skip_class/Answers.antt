@@ -12,14 +12,6 @@ overflow_add-r c = (let s = class_within c.requires in omega
 pub count_rows-n-requires : goal.count_rows-n-requires
 count_rows-n-requires c = class_fields c.requires
 
-pub overflow_add-at : goal.overflow_add-at
-overflow_add-at c = (let s = class_within c.requires in omega
-    (arith, s, c.requires.standing.short))
-
-pub overflow_add-at-2 : goal.overflow_add-at-2
-overflow_add-at-2 c = (let s = skip_within (skip_start c.requires c.count_rows-n.result
-    c.count_rows-n.ensures) in omega (arith, s, c.requires.standing.short))
-
 pub loop-at-init : goal.loop-at-init
 loop-at-init c = λ w. skip_start w c.count_rows-n.result c.count_rows-n.ensures
 
