@@ -1,18 +1,19 @@
 -- The verdict is that of the check. Assumes nothing.
-use mathlib.Core.Path.{◌≡◌, refl}
+use mathlib.Core.Path.{◌≡◌}
 use mathlib.Core.List.{List}
 use Prim.Native.Nat.{ℕ}
-use Rattle.language.specs.Results as results
-use Rattle.language.specs.Results.{accept, refuse}
-use Rattle.language.specs.Tree.{Program}
-use Rattle.language.specs.Verdict.{check, verdict, verdict_of}
+use Rattle.std.specs.Prelude.{Ok, Err}
+use Rattle.language.specs.Verdict.{check, verdict}
+use Rattle.language.specs.declared.Refusal.{Refusal}
 use Rattle.passes.specs.Answers.{checked_case}
-use Rattle.checker.specs.Answers.{verdict_case, verdict_of_checked}
+use Rattle.passes.proofs.Passing.{checked_accepted, checked_refused}
+use Rattle.checker.specs.Answers.{verdict_case}
 
-pub verdict_is : (R : List ℕ) → verdict_of_checked (checked_case (check R)) ≡ verdict_case (verdict R)
+pub verdict_accepted : (R : List ℕ) {n : ℕ} → Ok n ≡ checked_case (check R) → Ok tt ≡ verdict_case (verdict R)
 unfolding verdict
-verdict_is R = go (check R)
-  where
-    go : (c : results.Checked Program) → verdict_of_checked (checked_case c) ≡ verdict_case (verdict_of c)
-    go (accept p) = refl
-    go (refuse n l) = refl
+verdict_accepted R {n} e = rw (checked_accepted (check R) n e).1
+
+pub verdict_refused : (R : List ℕ) {r : Refusal} → Err r ≡ checked_case (check R)
+    → Err r ≡ verdict_case (verdict R)
+unfolding verdict
+verdict_refused R {r} e = rw (checked_refused (check R) r e)
