@@ -8,7 +8,9 @@ use borrow.Author.Tests.{eq-eqb, ne_eqb}
 use lib.ListN.{length, get_or}
 use Rattle.language.specs.Results.{Checked, accept, refuse, require, bind_checked_inv, require_inv}
 use Rattle.language.specs.Results.{accept≢refuse, accept_injective}
-use Rattle.language.specs.Rows.{Letter, code, Row, is_node}
+use Rattle.language.specs.Rows as rows
+use Rattle.language.specs.Rows.{Letter, code, Children, children, arguments, locals_and_nodes, has_node, Row}
+use Rattle.language.specs.Rows.{is_node}
 use Rattle.language.specs.Rows.{C_class, F_field, M_method, P_parameter, X_effect, S_start, B_block, V_local}
 use Rattle.language.specs.Rows.{T_true, L_false, N_null, I_slot, Z_is_null, G_get, K_cast, W_new, R_change}
 use Rattle.language.specs.Rows.{A_assign, U_set, Q_call, J_choose}
@@ -19,7 +21,7 @@ use Rattle.language.proofs.Letters.{code_injective}
 use Rattle.language.proofs.Tables.{next_rows_long, ends_long}
 use Rattle.parsing.specs.declared.limits.Limits.{Limits}
 use Rattle.parsing.specs.Columns.{most_of}
-use Rattle.parsing.specs.Places.{rows_from, row_checked, some_parts, parts_of, parts_at, Ready, There}
+use Rattle.parsing.specs.Places.{rows_from, row_checked, some_parts, parts, parts_of, parts_at, Ready, There}
 use Rattle.parsing.specs.Passes.{Step, ToldNode, ToldNodes, ToldLocals, Makes, parts_read}
 use Rattle.parsing.specs.declared.nodes.Parts.{Parts}
 use Rattle.std.specs.Prelude.{Option, None, Ok, Err}
@@ -194,27 +196,13 @@ no_node L Q_call a b e = absurd (no_shape (sym e))
 no_node L J_choose a b e = absurd (no_shape (sym e))
 
 a_node : (l : Letter) (a b : ℕ) {v k : ℕ} → parts_of l a b ≡ some_parts v k → is_node l ≡ true
-a_node C_class a b e = absurd (no_shape e)
-a_node F_field a b e = absurd (no_shape e)
-a_node M_method a b e = absurd (no_shape e)
-a_node P_parameter a b e = absurd (no_shape e)
-a_node X_effect a b e = absurd (no_shape e)
-a_node S_start a b e = absurd (no_shape e)
-a_node B_block a b e = refl
-a_node V_local a b e = absurd (no_shape e)
-a_node T_true a b e = refl
-a_node L_false a b e = refl
-a_node N_null a b e = refl
-a_node I_slot a b e = refl
-a_node Z_is_null a b e = refl
-a_node G_get a b e = refl
-a_node K_cast a b e = refl
-a_node W_new a b e = refl
-a_node R_change a b e = refl
-a_node A_assign a b e = refl
-a_node U_set a b e = refl
-a_node Q_call a b e = refl
-a_node J_choose a b e = refl
+a_node l a b e = go (rows.shape l).nodes e
+  where
+    go : (x : Children) {v k : ℕ} → parts x a b ≡ some_parts v k → has_node x ≡ true
+    go rows.no_node e = absurd (no_shape e)
+    go (children n) e = refl
+    go arguments e = refl
+    go locals_and_nodes e = refl
 
 -- only a block has locals
 no_locals : (l : Letter) (a b v k : ℕ) → parts_of l a b ≡ some_parts v k → (code l ≡ 66 → ⊥) → v ≡ 0
