@@ -20,6 +20,20 @@ use Rattle.limits.specs.Standing.{MethodsStand, ClassesStand, SomeMethodsStand, 
 use Rattle.limits.specs.Standing.{MethodsPassed}
 use Rattle.emitters.specs.Writing.{SomeFieldLines}
 
+-- A walk over lines from a row on, which stands at another: something of the lines left, and what they answer is the
+-- whole answer.
+pub record Walked {V : Type 0} (Rest : ℕ → Type 0) (Answer : ℕ → V → Type 0) (at row : ℕ) : Type 0 where
+  pub rest : Rest row
+  pub whole : (v : V) → Answer row v → Answer at v
+
+module _ {V : Type 0} {Rest : ℕ → Type 0} {Answer : ℕ → V → Type 0} where
+  pub walk_start : {at : ℕ} → Rest at → Walked Rest Answer at at
+  walk_start x = record { rest = x; whole = λ v a. a }
+
+  pub walk_on : {at row next : ℕ} → Walked Rest Answer at row → Rest next
+      → ((v : V) → Answer next v → Answer row v) → Walked Rest Answer at next
+  walk_on w x f = record { rest = x; whole = λ v a. w.whole v (f v a) }
+
 pub each_head : {A : Type 0} {Q : A → Type 0} {a : A} {l : List A} → Each Q (a ∷ l) → Q a × Each Q l
 each_head (each_cons x y) = (x, y)
 
@@ -100,22 +114,14 @@ module _ {R E : List ℕ} {at : ℕ} where
           go k (m ∷ ms) t = let z = stand-after m ms t in
               omega (arith, z, p.each k ms (stand_rest m ms t b z))
 
--- the methods before a row are passed
-pub record MethodsLeft (R E : List ℕ) (at row : ℕ) : Type 0 where
-  pub rest : SomeMethodsStand R E row
-  pub whole : (q : ℕ) → MethodsPassed R E row q → MethodsPassed R E at q
-
-pub methods_start : {R E : List ℕ} {at : ℕ} → SomeMethodsStand R E at → MethodsLeft R E at at
-methods_start x = record { rest = x; whole = λ q p. p }
-
-module _ {R E : List ℕ} {at row : ℕ} (l : MethodsLeft R E at row) where
+module _ {R E : List ℕ} {at row : ℕ} (w : Walked (SomeMethodsStand R E) (MethodsPassed R E) at row) where
   pub methods_end : get_or R (row * 4) 0 ≢ 77 → MethodsPassed R E at row
-  methods_end h = l.whole row (stand_none h)
+  methods_end h = w.whole row (stand_none h)
 
   pub methods_more : {b : ℕ} (h : get_or R (row * 4) 0 ≡ 77)
-      → ((w : MethodStanding R E row) → b ≡ row + method_lines w.method) → MethodsLeft R E at b × (row < b)
-  methods_more h s = let x = stand_next h s l.rest in
-      (record { rest = x.0; whole = λ q p. l.whole q (stand_step h s p) }, x.1)
+      → ((w : MethodStanding R E row) → b ≡ row + method_lines w.method)
+      → Walked (SomeMethodsStand R E) (MethodsPassed R E) at b × (row < b)
+  methods_more h s = let x = stand_next h s w.rest in (walk_on w x.0 (λ q p. stand_step h s p), x.1)
 
 -- classes
 pub no_class : {R : List ℕ} (at : ℕ) → RowAt R (at + classes_lines []) S_start 0 0 → get_or R (at * 4) 0 ≡ 67

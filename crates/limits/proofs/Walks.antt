@@ -31,6 +31,7 @@ use Rattle.limits.specs.Bounds.{verdict, ClassesCounted, SomeCounted, FieldsLimi
 use Rattle.limits.specs.Bounds.{NamesFree}
 use Rattle.limits.proofs.Standing.{class_positive, class_known, class_stand, class_rest, no_class}
 use Rattle.limits.proofs.Standing.{not_class, class_run, class_counted, class_passed, class_next}
+use Rattle.limits.proofs.Standing.{Walked, walk_start, walk_on}
 
 -- reserved names
 reserved : (n : ℕ) → (n ≡ 254) ⊎ ((n ≢ 254) × (n ≡ 255)) → not (eqb n 254 || eqb n 255) ≡ false
@@ -77,33 +78,35 @@ module _ {R : List ℕ} {at count : ℕ} where
           rw (ne_eqb f.name 254 (rw g at a), ne_eqb f.name 255 (rw g at b))
           (p.each fs r.1 (omega (arith, e)))
 
--- no name of the fields before a row is reserved: what the rest answers is the answer
-pub record NamesLeft (R : List ℕ) (at count row : ℕ) : Type 0 where
-  pub rest : SomeFieldLines R row (at + count - row)
-  pub whole : (v : Result (Unit {0}) Refusal) → FieldsFree R row (at + count - row) v → FieldsFree R at count v
+-- the fields before a row have free names
+abbrev pub NamesWalked : List ℕ → ℕ → ℕ → ℕ → Type 0
+NamesWalked R at count row = Walked (λ row. SomeFieldLines R row (at + count - row))
+    (λ row v. FieldsFree R row (at + count - row) v) at row
 
-module _ {R : List ℕ} {at count : ℕ} where
-  pub names_start : SomeFieldLines R at count → NamesLeft R at count at
-  names_start x = let e : at + count - at ≡ count = omega arith in record { rest = rw e x; whole = rw e (λ v w. w) }
+module _ {R : List ℕ} {at : ℕ} (count : ℕ) where
+  pub names_start : SomeFieldLines R at count → NamesWalked R at count at
+  names_start x = let e : at + count - at ≡ count = omega arith in walk_start (rw e x)
 
-  module _ {row : ℕ} (l : NamesLeft R at count row) where
+  module _ {row : ℕ} (w : NamesWalked R at count row) where
+    names_whole : {v : Result (Unit {0}) Refusal} → FieldsFree R row (at + count - row) v → FieldsFree R at count v
+    names_whole {v} p = let e : at + count - at ≡ count = omega arith in let q = w.whole v p in rw e at q
+
     pub names_row : row < at + count → row * 4 + 3 < length R
-    names_row h = field_in l.rest row (omega arith) (omega (arith, h))
+    names_row h = field_in w.rest row (omega arith) (omega (arith, h))
 
     pub names_end : row ≡ at + count → FieldsFree R at count (Ok tt)
-    names_end e = l.whole _ (free_none (omega (arith, e)))
+    names_end e = names_whole (free_none (omega (arith, e)))
 
     module _ (h : row < at + count) {n : ℕ} (e : n ≡ get_or R (row * 4 + 2) 0) where
-      pub names_stop : (n ≡ 254) ⊎ ((n ≢ 254) × (n ≡ 255)) → FieldsFree R at count (Err (refusal reserved_refusal (row + 1)))
-      names_stop d = l.whole _ (free_here (λ z. omega (arith, z, h)) e d)
+      pub names_stop : (n ≡ 254) ⊎ ((n ≢ 254) × (n ≡ 255))
+          → FieldsFree R at count (Err (refusal reserved_refusal (row + 1)))
+      names_stop d = names_whole (free_here (λ z. omega (arith, z, h)) e d)
 
-      pub names_more : n ≢ 254 → n ≢ 255 → NamesLeft R at count (row + 1)
+      pub names_more : n ≢ 254 → n ≢ 255 → NamesWalked R at count (row + 1)
       names_more a b =
           let k : at + count - row ≢ 0 = λ z. omega (arith, z, h) in
-          let z : at + count - (row + 1) ≡ at + count - row - 1 = omega arith in record {
-            rest = rw z (field_rest l.rest k);
-            whole = rw z (λ v w. l.whole v (free_step k e a b w));
-          }
+          let z : at + count - (row + 1) ≡ at + count - row - 1 = omega arith in
+          walk_on w (rw z (field_rest w.rest k)) (λ v p. free_step k e a b (rw z at p))
 
 module _ {R E : List ℕ} {at : ℕ} where
   names_none : get_or R (at * 4) 0 ≢ 67 → NamesFree R E at (Ok tt)
@@ -142,26 +145,21 @@ module _ {R E : List ℕ} {at : ℕ} where
             let o = result_ok (λ u. u) _ (own-fields c cs t p) in
             rw (o.is, ← z) (w.each (suc k) cs (class_rest c cs t q y))
 
--- no class before a row has a reserved name
-pub record ClassesLeft (R E : List ℕ) (at row : ℕ) : Type 0 where
-  pub rest : SomeClassesStand R E row
-  pub whole : (v : Result (Unit {0}) Refusal) → NamesFree R E row v → NamesFree R E at v
+-- the classes before a row have free names
+abbrev pub ClassesWalked : List ℕ → List ℕ → ℕ → ℕ → Type 0
+ClassesWalked R E = Walked (SomeClassesStand R E) (NamesFree R E)
 
-pub classes_start : {R E : List ℕ} {at : ℕ} → SomeClassesStand R E at → ClassesLeft R E at at
-classes_start x = record { rest = x; whole = λ v w. w }
-
-module _ {R E : List ℕ} {at row : ℕ} (l : ClassesLeft R E at row) where
+module _ {R E : List ℕ} {at row : ℕ} (w : ClassesWalked R E at row) where
   pub classes_end : get_or R (row * 4) 0 ≢ 67 → NamesFree R E at (Ok tt)
-  classes_end h = l.whole _ (names_none h)
+  classes_end h = w.whole _ (names_none h)
 
   module _ (h : get_or R (row * 4) 0 ≡ 67) {n : ℕ} (s : Run R 70 (row + 1) n) where
     pub classes_stop : {r : Refusal} → FieldsFree R (row + 1) n (Err r) → NamesFree R E at (Err r)
-    classes_stop p = l.whole _ (names_here s h p)
+    classes_stop p = w.whole _ (names_here s h p)
 
     pub classes_more : {q : ℕ} → FieldsFree R (row + 1) n (Ok tt) → MethodsPassed R E (row + 1 + n) q
-        → ClassesLeft R E at q × (row < q)
-    classes_more p u = let x = class_next h s u l.rest in
-        (record { rest = x.0; whole = λ v w. l.whole v (names_step s h p u w) }, x.1)
+        → ClassesWalked R E at q × (row < q)
+    classes_more p u = let x = class_next h s u w.rest in (walk_on w x.0 (λ v a. names_step s h p u a), x.1)
 
 -- what a check of several things answers, from what its parts do
 required : {B : Type 0} (t : Bool) (n l : ℕ) (k : Bool → Checked B) {c : Checked B} → t ≡ true → k true ≡ c
@@ -397,26 +395,22 @@ module _ {R E T : List ℕ} {at : ℕ} where
           omega (arith, y, class_positive c),
         )
 
--- no class before a row has a field too many
-pub record FieldsLeft (R E T : List ℕ) (at row : ℕ) : Type 0 where
-  pub rest : SomeCounted R E T row
-  pub whole : (v : Result (Unit {0}) Refusal) → FieldsLimited R E T row v → FieldsLimited R E T at v
+-- the classes before a row have no field too many
+abbrev pub FieldsWalked : List ℕ → List ℕ → List ℕ → ℕ → ℕ → Type 0
+FieldsWalked R E T = Walked (SomeCounted R E T) (FieldsLimited R E T)
 
-pub fields_start : {R E T : List ℕ} {at : ℕ} → SomeCounted R E T at → FieldsLeft R E T at at
-fields_start x = record { rest = x; whole = λ v w. w }
-
-module _ {R E T : List ℕ} {at row : ℕ} (l : FieldsLeft R E T at row) where
+module _ {R E T : List ℕ} {at row : ℕ} (w : FieldsWalked R E T at row) where
   pub fields_end : get_or R (row * 4) 0 ≢ 67 → FieldsLimited R E T at (Ok tt)
-  fields_end h = l.whole _ (limited_none h)
+  fields_end h = w.whole _ (limited_none h)
 
   module _ {n above inherited room : ℕ} (h : get_or R (row * 4) 0 ≡ 67) (s : Run R 70 (row + 1) n)
       (e : above ≡ get_or R (row * 4 + 2) 0) (f : inherited ≡ get_or T (above * 576 + 515) 0)
       (z : room ≡ 16 - inherited) where
     pub fields_stop : (line : ℕ) → line ≡ row + 2 + room → room < n
         → FieldsLimited R E T at (Err (refusal limit_refusal line))
-    fields_stop line y g = l.whole _ (limited_here s h e f z line y g)
+    fields_stop line y g = w.whole _ (limited_here s h e f z line y g)
 
     pub fields_more : {q : ℕ} → n ≤ room → MethodsPassed R E (row + 1 + n) q
-        → FieldsLeft R E T at q × (row < q)
-    fields_more g u = let x = counted_next s h e f z u l.rest in
-        (record { rest = x.0; whole = λ v w. l.whole v (limited_step s h e f z g u w) }, x.1)
+        → FieldsWalked R E T at q × (row < q)
+    fields_more g u = let x = counted_next s h e f z u w.rest in
+        (walk_on w x.0 (λ v a. limited_step s h e f z g u a), x.1)

@@ -1,9 +1,9 @@
 use Prim.Native.Nat.{◌-◌}
-use Rattle.limits.proofs.Walks.{ClassesLeft}
+use Rattle.limits.proofs.Walks.{ClassesWalked}
 use Rattle.limits.proofs.check_reserved.Given as goal
 
 abbrev pub invariant-loop-fields : goal.invariant-loop-fields
-invariant-loop-fields l = ClassesLeft l.rows l.ends l.at l.row
+invariant-loop-fields l = ClassesWalked l.rows l.ends l.at l.row
 
 abbrev pub decreases-loop-fields : goal.decreases-loop-fields
 decreases-loop-fields l = 60000 - l.row
