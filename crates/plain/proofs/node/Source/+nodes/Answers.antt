@@ -32,7 +32,7 @@ pub emit_arguments-emit_node-next-requires : goal.emit_arguments-emit_node-next-
 emit_arguments-emit_node-next-requires t c =
     let h : c.args.slot + c.args.count - c.loop-temporary.temporary ≢ 0 =
     λ e. omega (arith, e, c.loop-temporary-test.true) in (
-      omega (arith, c.loop-temporary.invariant.below, (arguments_line c.loop-temporary.invariant.rest h).1),
+      omega (arith, c.loop-temporary.invariant.below, arguments_line c.loop-temporary.invariant.rest h),
       arguments_first c.loop-temporary.invariant.rest h _ c.put-p.ensures.ended,
     )
 
@@ -46,29 +46,21 @@ emit_arguments-returns t c = arguments_end c.loop-temporary.invariant (omega ari
 -- What is left to prove of `emit_block`.
 
 pub emit_block-first-locals-requires : goal.emit_block-first-locals-requires
-emit_block-first-locals-requires t c = omega (arith, (node_row c.requires.task).0)
+emit_block-first-locals-requires t c = omega (arith, node_row c.requires.task)
 
 pub emit_block-second-count-requires : goal.emit_block-second-count-requires
-emit_block-second-count-requires t c = omega (arith, (node_row c.requires.task).0)
+emit_block-second-count-requires t c = omega (arith, node_row c.requires.task)
 
 pub emit_block-put-p-requires : goal.emit_block-put-p-requires
-emit_block-put-p-requires t c = omega (
-  arith,
-  (block_known c.first-locals.ensures c.second-count.ensures
-      c.requires).2,
-)
+emit_block-put-p-requires t c = omega (arith, block_known c.first-locals.ensures c.second-count.ensures c.requires)
 
 pub emit_block-overflow_add-at : goal.emit_block-overflow_add-at
-emit_block-overflow_add-at t c = omega (arith, (node_row c.requires.task).0)
+emit_block-overflow_add-at t c = omega (arith, node_row c.requires.task)
 
 pub emit_block-put_types-p-requires : goal.emit_block-put_types-p-requires
 emit_block-put_types-p-requires t c = record {
   some_types = block_some_types c.first-locals.ensures c.second-count.ensures c.requires;
-  count_bound = omega (
-    arith,
-    (block_known c.first-locals.ensures c.second-count.ensures c.requires).2,
-    c.put-p.ensures.ended,
-  );
+  count_bound = omega (arith, block_known c.first-locals.ensures c.second-count.ensures c.requires, c.put-p.ensures.ended);
 }
 
 pub emit_block-with_locals-slots-requires : goal.emit_block-with_locals-slots-requires
@@ -78,29 +70,18 @@ emit_block-with_locals-slots-requires t c = (
   (block_known c.first-locals.ensures c.second-count.ensures c.requires).5,
 )
 
-pub emit_block-overflow_add-inner : goal.emit_block-overflow_add-inner
-emit_block-overflow_add-inner t c = omega (arith, (block_known c.first-locals.ensures c.second-count.ensures c.requires).3)
-
 pub emit_block-overflow_add-inner-2 : goal.emit_block-overflow_add-inner-2
-emit_block-overflow_add-inner-2 t c = omega (
-  arith,
-  (block_known c.first-locals.ensures c.second-count.ensures c.requires).4,
-  (block_known c.first-locals.ensures c.second-count.ensures c.requires).3,
-)
+emit_block-overflow_add-inner-2 t c = omega (arith, block_known c.first-locals.ensures c.second-count.ensures c.requires)
 
 pub emit_block-overflow_add-at-2 : goal.emit_block-overflow_add-at-2
-emit_block-overflow_add-at-2 t c = omega (arith, (node_row c.requires.task).0)
+emit_block-overflow_add-at-2 t c = omega (arith, node_row c.requires.task)
 
 pub emit_block-overflow_add-at-3 : goal.emit_block-overflow_add-at-3
-emit_block-overflow_add-at-3 t c = omega (
-  arith,
-  (block_known c.first-locals.ensures c.second-count.ensures c.requires).0,
-  (block_known c.first-locals.ensures c.second-count.ensures c.requires).3,
-)
+emit_block-overflow_add-at-3 t c = omega (arith, block_known c.first-locals.ensures c.second-count.ensures c.requires)
 
 pub emit_block-emit_nodes-requires : goal.emit_block-emit_nodes-requires
 emit_block-emit_nodes-requires t c = (
-  omega (arith, (block_known c.first-locals.ensures c.second-count.ensures c.requires).1),
+  omega (arith, block_known c.first-locals.ensures c.second-count.ensures c.requires),
   block_some c.first-locals.ensures c.second-count.ensures c.requires _
       c.with_locals-slots.ensures _
       (block_ended c.first-locals.ensures c.second-count.ensures c.requires
@@ -115,23 +96,16 @@ emit_block-returns t c = block_done c.first-locals.ensures c.second-count.ensure
 -- What is left to prove of `emit_call`.
 
 pub emit_call-first-name-requires : goal.emit_call-first-name-requires
-emit_call-first-name-requires t c = omega (arith, (call_row c.requires).0)
+emit_call-first-name-requires t c = omega (arith, call_row c.requires)
 
 pub emit_call-second-count-requires : goal.emit_call-second-count-requires
-emit_call-second-count-requires t c = omega (arith, (call_row c.requires).0)
+emit_call-second-count-requires t c = omega (arith, call_row c.requires)
 
 pub emit_call-offset_bounds-self-at : goal.emit_call-offset_bounds-self-at
-emit_call-offset_bounds-self-at t c = omega (arith, (call_row c.requires).2)
+emit_call-offset_bounds-self-at t c = omega (arith, call_row c.requires)
 
 pub emit_call-bounds-self-at : goal.emit_call-bounds-self-at
-emit_call-bounds-self-at t c = omega (arith, (call_row c.requires).2)
-
-pub emit_call-overflow_add-name : goal.emit_call-overflow_add-name
-emit_call-overflow_add-name t c = omega (
-  arith,
-  (call_known c.first-name.ensures c.second-count.ensures c.from-class.ensures
-      c.requires).0,
-)
+emit_call-bounds-self-at t c = omega (arith, call_row c.requires)
 
 pub emit_call-class_entry-entry-requires : goal.emit_call-class_entry-entry-requires
 emit_call-class_entry-entry-requires t c = (call_known c.first-name.ensures c.second-count.ensures c.from-class.ensures c.requires).1
@@ -140,64 +114,34 @@ pub emit_call-overflow_sub-entry : goal.emit_call-overflow_sub-entry
 emit_call-overflow_sub-entry t c = (call_found c.first-name.ensures c.second-count.ensures c.from-class.ensures
     c.class_entry-entry.ensures c.requires).0
 
-pub emit_call-overflow_mul-entry : goal.emit_call-overflow_mul-entry
-emit_call-overflow_mul-entry t c = omega (
-  arith,
-  (call_found c.first-name.ensures c.second-count.ensures c.from-class.ensures
-      c.class_entry-entry.ensures c.requires).1,
-)
-
-pub emit_call-offset_bounds-self-entry : goal.emit_call-offset_bounds-self-entry
-emit_call-offset_bounds-self-entry t c = omega (
-  arith,
-  (call_found c.first-name.ensures c.second-count.ensures c.from-class.ensures
-      c.class_entry-entry.ensures c.requires).1,
-)
-
 pub emit_call-bounds-self-entry : goal.emit_call-bounds-self-entry
-emit_call-bounds-self-entry t c = omega (
-  arith,
-  (call_found c.first-name.ensures c.second-count.ensures c.from-class.ensures
-      c.class_entry-entry.ensures c.requires).1,
-)
+emit_call-bounds-self-entry t c = omega (arith, call_found c.first-name.ensures c.second-count.ensures c.from-class.ensures c.class_entry-entry.ensures c.requires)
 
 pub emit_call-overflow_add-nodes : goal.emit_call-overflow_add-nodes
-emit_call-overflow_add-nodes t c = omega (
-  arith,
-  (call_known c.first-name.ensures c.second-count.ensures c.from-class.ensures
-      c.requires).2,
-)
+emit_call-overflow_add-nodes t c = omega (arith, call_known c.first-name.ensures c.second-count.ensures c.from-class.ensures c.requires)
 
 pub emit_call-overflow_add-head : goal.emit_call-overflow_add-head
-emit_call-overflow_add-head t c = omega (
-  arith,
-  (call_known c.first-name.ensures c.second-count.ensures c.from-class.ensures
-      c.requires).2,
-)
+emit_call-overflow_add-head t c = omega (arith, call_known c.first-name.ensures c.second-count.ensures c.from-class.ensures c.requires)
 
 pub emit_call-put-p-requires : goal.emit_call-put-p-requires
-emit_call-put-p-requires t c = omega (arith, (call_known c.first-name.ensures c.second-count.ensures c.from-class.ensures c.requires).2)
+emit_call-put-p-requires t c = omega (arith, call_known c.first-name.ensures c.second-count.ensures c.from-class.ensures c.requires)
 
 pub emit_call-put_types-p-requires : goal.emit_call-put_types-p-requires
 emit_call-put_types-p-requires t c = record {
   some_types = call_some_types c.first-name.ensures c.second-count.ensures c.from-class.ensures
       c.class_entry-entry.ensures c.from-row.ensures c.requires;
-  count_bound = omega (
-    arith,
-    (call_known c.first-name.ensures c.second-count.ensures c.from-class.ensures c.requires).2,
-    c.put-p.ensures.ended,
-  );
+  count_bound = omega (arith, call_known c.first-name.ensures c.second-count.ensures c.from-class.ensures c.requires, c.put-p.ensures.ended);
 }
 
 pub emit_call-overflow_add-inner : goal.emit_call-overflow_add-inner
-emit_call-overflow_add-inner t c = omega (arith, (call_known c.first-name.ensures c.second-count.ensures c.from-class.ensures c.requires).3)
+emit_call-overflow_add-inner t c = omega (arith, call_known c.first-name.ensures c.second-count.ensures c.from-class.ensures c.requires)
 
 pub emit_call-overflow_add-at : goal.emit_call-overflow_add-at
-emit_call-overflow_add-at t c = omega (arith, (call_row c.requires).0)
+emit_call-overflow_add-at t c = omega (arith, call_row c.requires)
 
 pub emit_call-emit_arguments-r-requires : goal.emit_call-emit_arguments-r-requires
 emit_call-emit_arguments-r-requires t c = (
-  omega (arith, (call_row c.requires).1),
+  omega (arith, call_row c.requires),
   call_some_arguments c.first-name.ensures c.second-count.ensures c.from-class.ensures c.requires _
       (call_ended c.first-name.ensures c.second-count.ensures c.from-class.ensures
       c.class_entry-entry.ensures c.from-row.ensures c.requires c.put-p.ensures
@@ -205,32 +149,12 @@ emit_call-emit_arguments-r-requires t c = (
 )
 
 pub emit_call-put-q-requires : goal.emit_call-put-q-requires
-emit_call-put-q-requires t c = omega (
-  arith,
-  call_room_after c.first-name.ensures c.second-count.ensures c.from-class.ensures c.requires
-      (call_ended c.first-name.ensures c.second-count.ensures c.from-class.ensures
-      c.class_entry-entry.ensures c.from-row.ensures c.requires c.put-p.ensures
-      c.put_types-p.ensures) c.emit_arguments-r.ensures,
-)
-
-pub emit_call-overflow_add-object : goal.emit_call-overflow_add-object
-emit_call-overflow_add-object t c = omega (arith, (call_row c.requires).3)
+emit_call-put-q-requires t c = omega (arith, call_room_after c.first-name.ensures c.second-count.ensures c.from-class.ensures c.requires (call_ended c.first-name.ensures c.second-count.ensures c.from-class.ensures c.class_entry-entry.ensures c.from-row.ensures c.requires c.put-p.ensures c.put_types-p.ensures) c.emit_arguments-r.ensures)
 
 pub emit_call-put_reads-place-requires : goal.emit_call-put_reads-place-requires
 emit_call-put_reads-place-requires t c = (
-  omega (
-    arith,
-    call_room_after c.first-name.ensures c.second-count.ensures c.from-class.ensures c.requires
-        (call_ended c.first-name.ensures c.second-count.ensures c.from-class.ensures
-        c.class_entry-entry.ensures c.from-row.ensures c.requires c.put-p.ensures
-        c.put_types-p.ensures) c.emit_arguments-r.ensures,
-    c.put-q.ensures.ended,
-  ),
-  omega (
-    arith,
-    (call_known c.first-name.ensures c.second-count.ensures c.from-class.ensures c.requires).2,
-    (call_known c.first-name.ensures c.second-count.ensures c.from-class.ensures c.requires).3,
-  ),
+  omega (arith, call_room_after c.first-name.ensures c.second-count.ensures c.from-class.ensures c.requires (call_ended c.first-name.ensures c.second-count.ensures c.from-class.ensures c.class_entry-entry.ensures c.from-row.ensures c.requires c.put-p.ensures c.put_types-p.ensures) c.emit_arguments-r.ensures, c.put-q.ensures.ended),
+  omega (arith, call_known c.first-name.ensures c.second-count.ensures c.from-class.ensures c.requires),
 )
 
 pub emit_call-returns : goal.emit_call-returns
@@ -243,15 +167,12 @@ emit_call-returns t c = call_done c.first-name.ensures c.second-count.ensures c.
 pub emit_cast-put-p-requires : goal.emit_cast-put-p-requires
 emit_cast-put-p-requires t c = omega (arith, cast_room c.requires.task)
 
-pub emit_cast-overflow_add-inner : goal.emit_cast-overflow_add-inner
-emit_cast-overflow_add-inner t c = omega (arith, cast_room c.requires.task, c.requires.task.low)
-
 pub emit_cast-overflow_add-at : goal.emit_cast-overflow_add-at
-emit_cast-overflow_add-at t c = omega (arith, (node_row c.requires.task).0)
+emit_cast-overflow_add-at t c = omega (arith, node_row c.requires.task)
 
 pub emit_cast-emit_node-r-requires : goal.emit_cast-emit_node-r-requires
 emit_cast-emit_node-r-requires t c = (
-  omega (arith, (node_row c.requires.task).1),
+  omega (arith, node_row c.requires.task),
   record {
     P = c.requires.P;
     E = c.requires.E;
@@ -264,21 +185,13 @@ emit_cast-emit_node-r-requires t c = (
 )
 
 pub emit_cast-first-requires : goal.emit_cast-first-requires
-emit_cast-first-requires t c = omega (arith, (node_row c.requires.task).0)
+emit_cast-first-requires t c = omega (arith, node_row c.requires.task)
 
 pub emit_cast-overflow_add-tail : goal.emit_cast-overflow_add-tail
 emit_cast-overflow_add-tail t c = omega (arith, c.first.ensures, cast_small c.requires.task)
 
 pub emit_cast-put-place-requires : goal.emit_cast-put-place-requires
-emit_cast-put-place-requires t c = omega (
-  arith,
-  cast_room
-      c.requires.task,
-  c.put-p.ensures.ended,
-  (c.emit_node-r.ensures.each
-      c.requires.P c.requires.E c.requires.e c.requires.γ _
-      (cast_child c.requires.task _ c.put-p.ensures.ended)).written.ended,
-)
+emit_cast-put-place-requires t c = omega (arith, cast_room c.requires.task, c.put-p.ensures.ended, (c.emit_node-r.ensures.each c.requires.P c.requires.E c.requires.e c.requires.γ _ (cast_child c.requires.task _ c.put-p.ensures.ended)).written.ended)
 
 pub emit_cast-returns : goal.emit_cast-returns
 emit_cast-returns t c = record {
@@ -343,23 +256,19 @@ emit_node-returns-in_default t c = block_arm (sym c.letter_at-letter.ensures ∙
     (omega arith) (omega arith) (omega arith) (omega arith) (omega arith) (omega arith)) c.emit_block.ensures
 
 pub emit_node-letter_at-letter-requires : goal.emit_node-letter_at-letter-requires
-emit_node-letter_at-letter-requires t c = omega (arith, (row_known c.requires).0)
+emit_node-letter_at-letter-requires t c = omega (arith, row_known c.requires)
 
 pub emit_node-first-number-requires : goal.emit_node-first-number-requires
-emit_node-first-number-requires t c = omega (arith, (row_known c.requires).0)
+emit_node-first-number-requires t c = omega (arith, row_known c.requires)
 
 pub emit_node-overflow_add-next : goal.emit_node-overflow_add-next
-emit_node-overflow_add-next t c = omega (arith, (row_known c.requires).0)
+emit_node-overflow_add-next t c = omega (arith, row_known c.requires)
 
 pub emit_node-put-place-requires : goal.emit_node-put-place-requires
 emit_node-put-place-requires t c = literal_known c.requires (rw c.letter_at-letter.ensures at c.in-84.is)
 
 pub emit_node-bounds-scope-number : goal.emit_node-bounds-scope-number
-emit_node-bounds-scope-number t c = omega (
-  arith,
-  c.first-number.ensures,
-  (slot_known c.requires (sym c.letter_at-letter.ensures ∙ c.in-73.is)).0,
-)
+emit_node-bounds-scope-number t c = omega (arith, c.first-number.ensures, slot_known c.requires (sym c.letter_at-letter.ensures ∙ c.in-73.is))
 
 pub emit_node-put_slot-place-requires : goal.emit_node-put_slot-place-requires
 emit_node-put_slot-place-requires t c = rw c.first-number.ensures
@@ -372,14 +281,7 @@ emit_node-put_new-place-requires t c = rw c.first-number.ensures
     (sym c.letter_at-letter.ensures ∙ c.in-87.is))
 
 pub emit_node-bounds-scope-number-in-82 : goal.emit_node-bounds-scope-number-in-82
-emit_node-bounds-scope-number-in-82 t c = omega (
-  arith,
-  c.first-number.ensures,
-  (change_known c.requires (sym c.letter_at-letter.ensures ∙ c.in-82.is)).0,
-)
-
-pub emit_node-second-target-requires : goal.emit_node-second-target-requires
-emit_node-second-target-requires t c = omega (arith, (row_known c.requires).0)
+emit_node-bounds-scope-number-in-82 t c = omega (arith, c.first-number.ensures, change_known c.requires (sym c.letter_at-letter.ensures ∙ c.in-82.is))
 
 pub emit_node-put_change-place-requires : goal.emit_node-put_change-place-requires
 emit_node-put_change-place-requires t c = let k = change_known c.requires
@@ -391,17 +293,13 @@ emit_node-put-p-requires t c = is_null_known c.requires (sym c.letter_at-letter.
 
 pub emit_node-emit_node-requires : goal.emit_node-emit_node-requires
 emit_node-emit_node-requires t c = (
-  omega (arith, (row_known c.requires).1),
+  omega (arith, row_known c.requires),
   is_null_some c.requires (sym c.letter_at-letter.ensures ∙ c.in-90.is) _
       c.put-p.ensures.ended,
 )
 
 pub emit_node-bounds-scope-number-in-65 : goal.emit_node-bounds-scope-number-in-65
-emit_node-bounds-scope-number-in-65 t c = omega (
-  arith,
-  c.first-number.ensures,
-  (assign_known c.requires (sym c.letter_at-letter.ensures ∙ c.in-65.is)).0,
-)
+emit_node-bounds-scope-number-in-65 t c = omega (arith, c.first-number.ensures, assign_known c.requires (sym c.letter_at-letter.ensures ∙ c.in-65.is))
 
 pub emit_node-put-p-requires-in-65 : goal.emit_node-put-p-requires-in-65
 emit_node-put-p-requires-in-65 t c = (assign_known c.requires
@@ -409,16 +307,10 @@ emit_node-put-p-requires-in-65 t c = (assign_known c.requires
 
 pub emit_node-emit_node-requires-in-65 : goal.emit_node-emit_node-requires-in-65
 emit_node-emit_node-requires-in-65 t c = (
-  omega (arith, (row_known c.requires).1),
+  omega (arith, row_known c.requires),
   assign_some c.requires (sym c.letter_at-letter.ensures ∙ c.in-65.is) _
       c.put-p-in-65.ensures.ended,
 )
-
-pub emit_node-offset_bounds-self-at : goal.emit_node-offset_bounds-self-at
-emit_node-offset_bounds-self-at t c = omega (arith, (row_known c.requires).2)
-
-pub emit_node-bounds-self-at : goal.emit_node-bounds-self-at
-emit_node-bounds-self-at t c = omega (arith, (row_known c.requires).2)
 
 pub emit_node-put-p-requires-in-71 : goal.emit_node-put-p-requires-in-71
 emit_node-put-p-requires-in-71 t c = get_known c.requires
@@ -426,7 +318,7 @@ emit_node-put-p-requires-in-71 t c = get_known c.requires
 
 pub emit_node-emit_node-requires-in-71 : goal.emit_node-emit_node-requires-in-71
 emit_node-emit_node-requires-in-71 t c = (
-  omega (arith, (row_known c.requires).1),
+  omega (arith, row_known c.requires),
   get_some c.requires (sym c.letter_at-letter.ensures ∙ c.in-71.is) _
       c.put-p-in-71.ensures.ended,
 )
@@ -457,7 +349,7 @@ emit_node-put-p-requires-in-74 t c = choose_known c.requires (sym c.letter_at-le
 
 pub emit_node-emit_nodes-requires : goal.emit_node-emit_nodes-requires
 emit_node-emit_nodes-requires t c = (
-  omega (arith, (row_known c.requires).1),
+  omega (arith, row_known c.requires),
   choose_some c.requires (sym c.letter_at-letter.ensures ∙ c.in-74.is) _
       c.put-p-in-74.ensures.ended,
 )
@@ -479,7 +371,7 @@ emit_nodes-loop-init t c = left_start (omega arith) c.requires
 pub emit_nodes-emit_node-next-requires : goal.emit_nodes-emit_node-next-requires
 emit_nodes-emit_node-next-requires t c =
     let x = nodes_first c.loop.invariant.rest (λ e. omega (arith, e, c.loop-test.true)) in
-    (omega (arith, c.loop.invariant.below, (row_known x).1), x)
+    (omega (arith, c.loop.invariant.below, row_known x), x)
 
 pub emit_nodes-loop-preserved : goal.emit_nodes-loop-preserved
 emit_nodes-loop-preserved t c = left_more c.loop.invariant (omega arith) c.emit_node-next.ensures
@@ -490,47 +382,34 @@ emit_nodes-returns t c = left_end c.loop.invariant (omega arith)
 -- What is left to prove of `emit_set`.
 
 pub emit_set-first-name-requires : goal.emit_set-first-name-requires
-emit_set-first-name-requires t c = omega (arith, (set_row c.requires).0)
+emit_set-first-name-requires t c = omega (arith, set_row c.requires)
 
 pub emit_set-offset_bounds-self-at : goal.emit_set-offset_bounds-self-at
-emit_set-offset_bounds-self-at t c = omega (arith, (set_row c.requires).2)
+emit_set-offset_bounds-self-at t c = omega (arith, set_row c.requires)
 
 pub emit_set-bounds-self-at : goal.emit_set-bounds-self-at
-emit_set-bounds-self-at t c = omega (arith, (set_row c.requires).2)
+emit_set-bounds-self-at t c = omega (arith, set_row c.requires)
 
 pub emit_set-class_entry-field-requires : goal.emit_set-class_entry-field-requires
 emit_set-class_entry-field-requires t c = (set_known c.first-name.ensures c.from-class.ensures c.requires).1
-
-pub emit_set-overflow_add-field : goal.emit_set-overflow_add-field
-emit_set-overflow_add-field t c = omega (arith, set_found c.first-name.ensures c.from-class.ensures c.class_entry-field.ensures c.requires)
 
 pub emit_set-class_entry-row-requires : goal.emit_set-class_entry-row-requires
 emit_set-class_entry-row-requires t c = set_found c.first-name.ensures c.from-class.ensures c.class_entry-field.ensures c.requires
 
 pub emit_set-first-requires : goal.emit_set-first-requires
-emit_set-first-requires t c = omega (
-  arith,
-  set_within c.first-name.ensures c.from-class.ensures c.class_entry-field.ensures
-      c.class_entry-row.ensures c.requires,
-)
+emit_set-first-requires t c = omega (arith, set_within c.first-name.ensures c.from-class.ensures c.class_entry-field.ensures c.class_entry-row.ensures c.requires)
 
 pub emit_set-put-p-requires : goal.emit_set-put-p-requires
-emit_set-put-p-requires t c = omega (arith, (set_fits c.requires).0)
-
-pub emit_set-overflow_add-inner : goal.emit_set-overflow_add-inner
-emit_set-overflow_add-inner t c = omega (arith, (set_fits c.requires).1)
+emit_set-put-p-requires t c = omega (arith, set_fits c.requires)
 
 pub emit_set-overflow_add-at : goal.emit_set-overflow_add-at
-emit_set-overflow_add-at t c = omega (arith, (set_row c.requires).0)
+emit_set-overflow_add-at t c = omega (arith, set_row c.requires)
 
 pub emit_set-emit_arguments-r-requires : goal.emit_set-emit_arguments-r-requires
 emit_set-emit_arguments-r-requires t c = (
-  omega (arith, (set_row c.requires).1),
+  omega (arith, set_row c.requires),
   set_ended c.requires c.put-p.ensures,
 )
-
-pub emit_set-overflow_add-tail-2 : goal.emit_set-overflow_add-tail-2
-emit_set-overflow_add-tail-2 t c = omega (arith, (set_fits c.requires).1)
 
 pub emit_set-put-place-requires : goal.emit_set-put-place-requires
 emit_set-put-place-requires t c = set_room_after c.requires c.put-p.ensures.ended c.emit_arguments-r.ensures

@@ -2,17 +2,11 @@ use native.Mathlib.Omega.{arith}
 use Rattle.plain.proofs.Classes.{class_known, class_run, class_fields, class_some, class_done}
 use Rattle.plain.proofs.node.Source.emit_class.Goals as goal
 
-pub second-requires : goal.second-requires
-second-requires c = omega (arith, (class_known c.requires).0)
-
 pub overflow_add-second : goal.overflow_add-second
 overflow_add-second c = omega (arith, (class_known c.requires).2, c.second.ensures)
 
 pub put-p-requires : goal.put-p-requires
 put-p-requires c = omega (arith, (class_known c.requires).3)
-
-pub overflow_add-fields : goal.overflow_add-fields
-overflow_add-fields c = omega (arith, (class_known c.requires).1)
 
 pub count_rows-n-requires : goal.count_rows-n-requires
 count_rows-n-requires c = class_run c.requires
@@ -23,9 +17,6 @@ put_fields-q-requires c = let d = class_fields c.count_rows-n.ensures c.requires
       some_field_lines = d.0;
       count_bound = d.1;
     }
-
-pub overflow_add-fields-2 : goal.overflow_add-fields-2
-overflow_add-fields-2 c = omega (arith, c.count_rows-n.ensures.inside, c.requires.task.stand.short)
 
 pub emit_methods-requires : goal.emit_methods-requires
 emit_methods-requires c = class_some c.count_rows-n.ensures c.put-p.ensures

@@ -1,13 +1,7 @@
 use mathlib.Core.Path.{sym, ◌∙◌}
 use native.Mathlib.Omega.{arith}
-use Rattle.plain.proofs.Classes.{classes_known, classes_class, classes_start, classes_more, classes_done}
+use Rattle.plain.proofs.Classes.{classes_known, classes_class, classes_more, classes_done}
 use Rattle.plain.proofs.node.Source.emit_classes.Goals as goal
-
-pub loop-out-init : goal.loop-out-init
-loop-out-init c = classes_start c.requires
-
-pub letter_at-requires : goal.letter_at-requires
-letter_at-requires c = omega (arith, classes_known c.loop-out.invariant.rest)
 
 pub emit_class-next-requires : goal.emit_class-next-requires
 emit_class-next-requires c = classes_class c.loop-out.invariant.rest (sym c.letter_at.ensures ∙ c.loop-out-test.true)
