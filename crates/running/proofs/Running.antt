@@ -11,39 +11,39 @@ use Rattle.language.specs.Tree.{Program}
 use Rattle.language.specs.Verdict.{whole_rows, check}
 use Rattle.language.specs.Store as store
 use Rattle.language.specs.Store.{runnable, run_checked, run_of}
-use Rattle.passes.specs.declared.Checked.{Checked}
-use Rattle.passes.specs.declared.Checked.TheVariants.{Accepted as Passed, Refused as Failed}
+use Rattle.std.specs.Prelude.{Ok, Err}
+use Rattle.language.specs.Refusals.{refusal}
+use Rattle.language.specs.declared.Refusal.{Refusal}
 use Rattle.passes.specs.Answers.{checked_case}
 use Rattle.passes.specs.Passes.{Checks}
 use Rattle.passes.proofs.Passing.{checked_accepted, checked_refused}
 use Rattle.machine.specs.declared.Run.{Run}
 use Rattle.machine.specs.Runs.{PreChecked, PostChecked, Tells}
 use Rattle.machine.proofs.Checked.{tells_run_of}
-use Rattle.running.specs.declared.Answer.TheVariants.{Refused, Ran}
 use Rattle.running.specs.Answers.{answer_told, Answers}
 
 module _ (R s : List ℕ) (fuel : ℕ) where
   -- What is not runnable is refused, and changes nothing.
-  pub refuses : (n l : ℕ) → runnable R fuel ≡ refuse n l → Answers R fuel s s (Refused n l)
+  pub refuses : (r : Refusal) → runnable R fuel ≡ refuse r.number r.line → Answers R fuel s s (Err r)
   unfolding run_of
-  refuses n l e =
-      let z : run_of R fuel s ≡ record { answer = store.refused n l; store = s } =
+  refuses r e =
+      let z : run_of R fuel s ≡ record { answer = store.refused r.number r.line; store = s } =
       ap (λ (c : results.Checked Program). run_checked c fuel s) e in
       record {
         answer = ap (λ (x : store.Ran). answer_told x.answer) (sym z);
         store = ap (λ (x : store.Ran). x.store) (sym z);
       }
 
-  pub uneven : (length R % 4 ≡ 0 → ⊥) → Answers R fuel s s (Refused 1 0)
+  pub uneven : (length R % 4 ≡ 0 → ⊥) → Answers R fuel s s (Err (refusal 1 0))
   unfolding runnable whole_rows require
-  uneven u = refuses 1 0 (go u)
+  uneven u = refuses (refusal 1 0) (go u)
     where
       go : (length R % 4 ≡ 0 → ⊥) → runnable R fuel ≡ refuse 1 0
       go u = rw (ne_eqb (length R % 4) 0 u)
 
-  pub over : length R % 4 ≡ 0 → most_fuel < fuel → Answers R fuel s s (Refused 2 0)
+  pub over : length R % 4 ≡ 0 → most_fuel < fuel → Answers R fuel s s (Err (refusal 2 0))
   unfolding runnable whole_rows require
-  over w o = refuses 2 0 (go w o)
+  over w o = refuses (refusal 2 0) (go w o)
     where
       go : length R % 4 ≡ 0 → most_fuel < fuel → runnable R fuel ≡ refuse 2 0
       go w o = rw (eq-eqb (length R % 4) 0 w, lt-leb fuel most_fuel o)
@@ -54,30 +54,29 @@ module _ (R s : List ℕ) (fuel : ℕ) where
   runnable_is l = rw (le-leb fuel most_fuel l)
 
   -- What the check refuses is refused.
-  pub check_refuses : (n l : ℕ) → fuel ≤ most_fuel → check R ≡ refuse n l → Answers R fuel s s (Refused n l)
-  check_refuses n l few e = refuses n l (runnable_is few ∙ e)
+  pub check_refuses : {r : Refusal} → fuel ≤ most_fuel → check R ≡ refuse r.number r.line → Answers R fuel s s (Err r)
+  check_refuses {r} few e = refuses r (runnable_is few ∙ e)
 
-  pub not_accepted : (n l : ℕ) (c : Checked) → fuel ≤ most_fuel → c ≡ Failed n l → c ≡ checked_case (check R)
-      → Answers R fuel s s (Refused n l)
-  not_accepted n l c few e f = check_refuses n l few (checked_refused (check R) n l (sym e ∙ f))
+  pub not_accepted : {r : Refusal} → fuel ≤ most_fuel → Err r ≡ checked_case (check R) → Answers R fuel s s (Err r)
+  not_accepted {r} few e = check_refuses few (checked_refused (check R) r e)
 
 -- Rows that the check accepted, with the tables that it filled.
-module _ {R E T A M C : List ℕ} (n : ℕ) (c : Checked) (e : c ≡ Passed n) (f : Checks R E T A M C c) where
+module _ {R E T A M C : List ℕ} {n : ℕ} (f : Checks R E T A M C (Ok n)) where
   pub accepted : (p : Program) × (check R ≡ accept p)
-  accepted = checked_accepted (check R) n (sym e ∙ f.answer)
+  accepted = checked_accepted (check R) n f.answer
 
   abbrev pub checked : PreChecked R E T A M
   checked = let h = f.holds accepted.0 accepted.1 in
       record { F = h.0; C = C; p = accepted.0; held = h.1 }
 
   pub answers : {s s' : List ℕ} {fuel : ℕ} {r : Run} → fuel ≤ most_fuel → PostChecked R E T A M s s' fuel r
-      → Answers R fuel s s' (Ran r)
+      → Answers R fuel s s' (Ok r)
   answers {s} {s'} {fuel} {r} few d =
       let t = tells_run_of R s s' accepted.0 fuel r accepted.1 few (d.tells checked) in
       record { answer = told t; store = ap (λ (y : store.Ran). y.store) (sym t.is) }
     where
-      told : Tells (run_of R fuel s) s' r → Ran r ≡ answer_told (run_of R fuel s).answer
+      told : Tells (run_of R fuel s) s' r → Ok r ≡ answer_told (run_of R fuel s).answer
       told t =
-          ap (λ o. Ran (record { outcome = o; steps = r.steps; objects = r.objects; changes = r.changes }))
+          ap (λ o. Ok (record { outcome = o; steps = r.steps; objects = r.objects; changes = r.changes }))
           t.told
           ∙ ap (λ (y : store.Ran). answer_told y.answer) (sym t.is)
