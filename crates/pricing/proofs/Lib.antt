@@ -1,3 +1,3 @@
 pub mod Runs
-pub mod Scans
+pub mod Tables
 pub mod Answers

@@ -16,7 +16,7 @@ ghost use Rattle.pricing.specs.Runs.{Priced, RunAt, has_price, price_kept, unles
 
 use language::{ROOM_REFUSAL, Refusal};
 use prices::Price;
-use terms::{Entry, MARK_WORDS, MOST_DAYS};
+use terms::{Days, Entry, MOST_DAYS};
 
 // The last day of the range, and the refusal of a day, date or month that is not in the calendar or range.
 const LAST_DAY: u32 = 65535;
@@ -64,22 +64,22 @@ fn find_end(table: &[Option<Entry>], i: usize, count: usize, cents: u32) -> usiz
 
 // Writes the lines of the runs of a table, and returns how long they are. A line has at most 18 bytes, and there are at
 // most 31 days.
-fn write_runs(table: &[Option<Entry>], day: u32, count: usize, held: &mut [u8]) -> usize
-    requires { (day + count ≤ last_day + 1) × (count ≤ most_days) × (most_report ≤ length held.old) ×
-        ((price : ℕ → Option ℕ) × Priced price day count table.now) }
-    ensures { (result ≤ most_report) × ((price : ℕ → Option ℕ) → Priced price day count table.now
-        → (result ≡ length (run_lines (price_runs price day count)))
-        × (held.new ≡ sets held.old 0 (run_lines (price_runs price day count)))) }
+fn write_runs(table: &[Option<Entry>], days: Days, held: &mut [u8]) -> usize
+    requires { (most_report ≤ length held.old) ×
+        ((price : ℕ → Option ℕ) × Priced price days.first days.count table.now) }
+    ensures { (result ≤ most_report) × ((price : ℕ → Option ℕ) → Priced price days.first days.count table.now
+        → (result ≡ length (run_lines (price_runs price days.first days.count)))
+        × (held.new ≡ sets held.old 0 (run_lines (price_runs price days.first days.count)))) }
 {
     let mut i = 0;
     let mut at = 0;
-    while i < count {
+    while i < days.count {
         let Some(entry) = table[i] else {
             i += 1;
             continue;
         };
-        let end = find_end(table, i, count, entry.cents);
-        let (first, last) = (day + i as u32, day + end as u32 - 1);
+        let end = find_end(table, i, days.count, entry.cents);
+        let (first, last) = (days.first + i as u32, days.first + end as u32 - 1);
         at = write_run(held, at, first, last, entry.cents);
         i = end;
     }
@@ -88,21 +88,16 @@ fn write_runs(table: &[Option<Entry>], day: u32, count: usize, held: &mut [u8]) 
 
 // Writes the lines of the runs of a table into a report. They are written aside first, and copied if they fit, so that a
 // refusal changes nothing.
-fn write_report(
-    table: &[Option<Entry>],
-    day: u32,
-    count: usize,
-    report: &mut [u8],
-) -> Result<usize, Refusal>
-    requires { (day + count ≤ last_day + 1) × (count ≤ most_days) ×
-        ((price : ℕ → Option ℕ) × Priced price day count table.now) }
-    ensures { (price : ℕ → Option ℕ) → Priced price day count table.now
-        → (result ≡ answer 1 (accept (run_lines (price_runs price day count))) (length report.old))
+fn write_report(table: &[Option<Entry>], days: Days, report: &mut [u8]) -> Result<usize, Refusal>
+    requires { (price : ℕ → Option ℕ) × Priced price days.first days.count table.now }
+    ensures { (price : ℕ → Option ℕ) → Priced price days.first days.count table.now
+        → (result
+        ≡ answer 1 (accept (run_lines (price_runs price days.first days.count))) (length report.old))
         × (report.new
-        ≡ buffer (accept (run_lines (price_runs price day count))) report.old) }
+        ≡ buffer (accept (run_lines (price_runs price days.first days.count))) report.old) }
 {
     let mut held = [0u8; MOST_REPORT];
-    let n = write_runs(table, day, count, &mut held);
+    let n = write_runs(table, days, &mut held);
     if report.len() < n {
         return Err(Refusal {
             number: ROOM_REFUSAL,
@@ -113,14 +108,13 @@ fn write_report(
     Ok(n)
 }
 
-// Why no day is told or reported, whatever the model, where a day, date or month is refused: the terms, which are scanned
-// for no day, are refused first.
+// Why no day is told or reported, whatever the model, where a day, date or month is refused: the terms, which are read for
+// no day, are refused first.
 fn refuse_day(terms: &[u8]) -> Refusal
     ensures { result ≡ unless_refused (terms_of terms.now) }
 {
-    let mut marks = [0u64; MARK_WORDS];
-    let mut table = [None; MOST_DAYS];
-    match terms::scan_terms(terms, 0, 0, 0, &mut marks, &mut table) {
+    let none = Days { first: 0, count: 0 };
+    match terms::scan_terms(terms, 0, none) {
         Ok(_) => NO_DAY,
         Err(refusal) => refusal,
     }
@@ -134,14 +128,19 @@ fn price_kept(kept: Option<Entry>) -> Option<Price>
     Some(Price { cents, line })
 }
 
-// The price of a model on a day in range: the terms are scanned for that day alone.
+// The price of a model on a day in range: the terms are read for that day alone.
 fn price_within(terms: &[u8], model: u32, day: u32) -> Result<Option<Price>, Refusal>
     requires { day ≤ last_day }
     ensures { result ≡ told_price (term_on terms.now model (accept day)) }
 {
-    let mut marks = [0u64; MARK_WORDS];
-    let mut table = [None; MOST_DAYS];
-    terms::scan_terms(terms, model, day, 1, &mut marks, &mut table)?;
+    let table = terms::scan_terms(
+        terms,
+        model,
+        Days {
+            first: day,
+            count: 1,
+        },
+    )?;
     Ok(price_kept(table[0]))
 }
 
@@ -171,24 +170,15 @@ pub fn price_on_date(
     }
 }
 
-// The report of `count` days from a day on.
-fn report_days(
-    terms: &[u8],
-    model: u32,
-    day: u32,
-    count: usize,
-    report: &mut [u8],
-) -> Result<usize, Refusal>
-    requires { (day ≤ last_day) × (day + count ≤ last_day + 1) × (count ≤ most_days) }
-    ensures { (result ≡ answer 1 (days_report terms.now model (accept (days_from day count)))
+// The report of some days.
+fn report_days(terms: &[u8], model: u32, days: Days, report: &mut [u8]) -> Result<usize, Refusal>
+    ensures { (result ≡ answer 1 (days_report terms.now model (accept (days_from days.first days.count)))
         (length report.old))
-        × (report.new ≡ buffer (days_report terms.now model (accept (days_from day count)))
+        × (report.new ≡ buffer (days_report terms.now model (accept (days_from days.first days.count)))
         report.old) }
 {
-    let mut marks = [0u64; MARK_WORDS];
-    let mut table = [None; MOST_DAYS];
-    terms::scan_terms(terms, model, day, count, &mut marks, &mut table)?;
-    write_report(&table, day, count, report)
+    let table = terms::scan_terms(terms, model, days)?;
+    write_report(&table, days, report)
 }
 
 // The report of a model and a month.
@@ -204,12 +194,13 @@ pub fn report_prices(
         × (report.new ≡ buffer (price_report terms.now model year month)
         report.old) }
 {
-    let days = calendar::days_in(year, month);
+    let most = calendar::days_in(year, month);
     let Ok(first) = calendar::day_of_date(year, month, 1) else {
         return Err(refuse_day(terms));
     };
-    let Ok(last) = calendar::day_of_date(year, month, days) else {
+    let Ok(last) = calendar::day_of_date(year, month, most) else {
         return Err(refuse_day(terms));
     };
-    report_days(terms, model, first, (last + 1 - first) as usize, report)
+    let count = (last + 1 - first) as usize;
+    report_days(terms, model, Days { first, count }, report)
 }

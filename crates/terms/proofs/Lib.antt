@@ -2,3 +2,4 @@ pub mod Lines
 pub mod Entering
 pub mod Marking
 pub mod Scanning
+pub mod Tables

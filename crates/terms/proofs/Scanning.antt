@@ -1,29 +1,22 @@
--- Laws of the scan over a text of terms: what holds between two lines, and what is returned. Assumes nothing.
+-- Laws of the scan over a text of terms: what holds between two lines, and what is told. Assumes nothing.
 use mathlib.Core.Path.{◌≡◌, refl, sym, ap, ◌∙◌}
 use mathlib.Core.Bool.{true, false}
 use mathlib.Core.List.{List, [], ◌∷◌, ◌++◌}
-use Prim.Native.Nat.{ℕ, ◌+◌, ◌-◌, ◌/◌, ◌%◌, ◌≤◌, ◌<◌}
+use Prim.Native.Nat.{ℕ, ◌+◌, ◌/◌, ◌%◌, ◌≤◌, ◌<◌}
 use native.Mathlib.Omega.{arith}
 use lib.ListN.{length, drop, get_or, set, length-append, length-drop}
 use Rattle.language.specs.Effects.{join, effect_of}
-use Rattle.language.specs.Results.{accept, refuse, accept≢refuse, accept_injective}
-use Rattle.std.specs.Prelude.{Option as Kept, Some, None, Result, Ok, Err}
+use Rattle.language.specs.Results.{refuse}
+use Rattle.std.specs.Prelude.{Option as Kept, Some, None, Ok, Err}
 use Rattle.terms.specs.declared.Entry.{Entry}
 use Rattle.language.specs.Refusals.{refusal}
-use Rattle.language.specs.declared.Refusal.{Refusal}
 use Rattle.prices.specs.Terms.{Term, term_numbers, term_line, is_signed, next_line, terms_after, terms_of}
-use Rattle.terms.specs.Tables.{entry, is_marked, Marks, Ruled, scanned}
+use Rattle.terms.specs.Tables.{entry, is_marked, Marks, Ruled, RuledBy}
 use Rattle.prices.proofs.Terms.{next_term, Seen, seen_none, seen_few, seen_more, LineInRange, term_line_range}
 use Rattle.prices.proofs.Terms.{terms_end, terms_malformed, terms_reversed, terms_repeated, terms_more}
 use Rattle.terms.specs.Entering.{term_entered}
 use Rattle.terms.proofs.Entering.{ruled_more}
 use Rattle.terms.proofs.Marking.{marks_more}
-
--- What is returned: how many terms there are, or the refusal; where they are accepted the table tells which rule.
-abbrev pub Told : List ℕ → ℕ → ℕ → ℕ → List (Kept Entry) → Result ℕ Refusal → Type 0
-Told text model day count table r =
-    (r ≡ scanned (terms_of text))
-    × ((ts : List Term) → terms_of text ≡ accept ts → Ruled model day count table ts)
 
 -- Between two lines the terms of the text are those seen and those of the rest.
 pub record Scanning (text : List ℕ) (model day count : ℕ) (marks : List ℕ) (table : List (Kept Entry)) (at line : ℕ) : Type 0 where
@@ -54,28 +47,17 @@ module _ {text : List ℕ} {model day count : ℕ} {marks : List ℕ} {table : L
   pub scan_line : (1 ≤ line) × (line ≤ 65537)
   scan_line = let few = seen_few p.good in (omega (arith, p.here), omega (arith, p.here, few))
 
-  pub scan_done : length text ≤ at → Told text model day count table (Ok (line - 1))
-  scan_done h =
-      let all : terms_of text ≡ accept p.seen = p.left ∙ terms_end p.seen at text h in
-      let n : line - 1 ≡ length p.seen = omega (arith, p.here) in (
-        rw (all, n),
-        λ ts e. let q : p.seen ≡ ts = accept_injective (sym all ∙ e) in rw (← q) p.ruled,
-      )
+  pub scan_done : length text ≤ at → RuledBy text model day count (Ok table)
+  scan_done h = (p.seen, p.left ∙ terms_end p.seen at text h, p.ruled)
 
-  refused : (number : ℕ) (table' : List (Kept Entry))
-      → terms_after p.seen 0 (drop at text) ≡ refuse number (next_line p.seen)
-      → Told text model day count table' (Err (refusal number line))
-  refused number table' e =
-      let all : terms_of text ≡ refuse number line = p.left
-      ∙ (e ∙ ap (λ (n : ℕ). refuse number n) (sym p.here)) in (
-        rw all,
-        λ ts f. absurd (accept≢refuse number line (sym all ∙ f)),
-      )
+  refused : (number : ℕ) → terms_after p.seen 0 (drop at text) ≡ refuse number (next_line p.seen)
+      → RuledBy text model day count (Err (refusal number line))
+  refused number e = p.left ∙ (e ∙ ap (λ (n : ℕ). refuse number n) (sym p.here))
 
   module _ (h : at < length text) where
     pub scan_malformed : term_line (drop at text) ≡ None
-        → Told text model day count table (Err (refusal 1 line))
-    scan_malformed e = refused 1 table (terms_malformed p.seen at text h e)
+        → RuledBy text model day count (Err (refusal 1 line))
+    scan_malformed e = refused 1 (terms_malformed p.seen at text h e)
 
     module _ (m f l c g u : ℕ) (e : term_line (drop at text) ≡ Some (term_numbers m f l c g u)) where
       line-range : LineInRange (drop at text) m f l c g u
@@ -88,11 +70,11 @@ module _ {text : List ℕ} {model day count : ℕ} {marks : List ℕ} {table : L
       pub scan_used : (1 ≤ u) × (at + u ≤ length text)
       scan_used = (line-range.used_from, omega (arith, line-range.used_to, length-drop at text, h))
 
-      pub scan_reversed : l < f → Told text model day count table (Err (refusal 23 line))
-      scan_reversed q = refused 23 table (terms_reversed p.seen at text h m f l c g u e q)
+      pub scan_reversed : l < f → RuledBy text model day count (Err (refusal 23 line))
+      scan_reversed q = refused 23 (terms_reversed p.seen at text h m f l c g u e q)
 
-      pub scan_repeated : is_marked marks g ≡ true → Told text model day count table (Err (refusal 23 line))
-      scan_repeated q = refused 23 table
+      pub scan_repeated : is_marked marks g ≡ true → RuledBy text model day count (Err (refusal 23 line))
+      scan_repeated q = refused 23
           (terms_repeated p.seen at text h m f l c g u e (sym (p.marked.each g scan_signing) ∙ q))
 
       pub scan_step : (marks' : List ℕ) (table' : List (Kept Entry)) → f ≤ l → is_marked marks g ≡ false → count ≤ 31

@@ -1,14 +1,13 @@
 -- What a scan over the terms keeps in tables: the signing numbers that occurred, as bits, and for each of some
 -- consecutive days the term that rules.
-use Rattle.std.specs.Prelude.{◌≡◌, Bool, List, ℕ, ◌+◌, ◌/◌, ◌%◌, ◌≤◌, ◌<◌, length, get_or, Result, Option as Kept, Some, None}
+use Rattle.std.specs.Prelude.{◌≡◌, Bool, List, ℕ, ◌+◌, ◌/◌, ◌%◌, ◌≤◌, ◌<◌, length, get_or, Result, Option as Kept, Some, None, Ok, Err}
 use Rattle.std.proofs.Math.Option.{Option, none, some}
 use Rattle.language.specs.Effects.{member}
 use Rattle.language.specs.Limits.{largest}
-use Rattle.language.specs.Results.{Checked}
-use Rattle.language.specs.Refusals.{result_of}
+use Rattle.language.specs.Results.{accept, refuse}
 use Rattle.language.specs.declared.Refusal.{Refusal}
 use Rattle.terms.specs.declared.Entry.{Entry}
-use Rattle.prices.specs.Terms.{Term, is_signed}
+use Rattle.prices.specs.Terms.{Term, is_signed, terms_of}
 use Rattle.prices.specs.Prices.{ruling}
 
 -- One mark for each signing number up to the largest, 64 to a word.
@@ -41,6 +40,8 @@ pub record Ruled (model first count : ℕ) (table : List (Kept Entry)) (ts : Lis
   pub long : length table ≡ most_days
   pub each : (i : ℕ) → i < count → get_or table i None ≡ kept (ruling model (first + i) ts)
 
--- What a scan returns: how many terms there are, or the refusal.
-abbrev pub scanned : Checked (List Term) → Result ℕ Refusal
-scanned terms = result_of length terms
+-- What is told of the terms of a text: a table of those that rule a model on some days, or their refusal.
+abbrev pub RuledBy : List ℕ → ℕ → ℕ → ℕ → Result (List (Kept Entry)) Refusal → Type 0
+RuledBy text model first count (Ok table) =
+    (ts : List Term) × (terms_of text ≡ accept ts) × Ruled model first count table ts
+RuledBy text model first count (Err r) = terms_of text ≡ refuse r.number r.line

@@ -3,12 +3,11 @@
 
 ghost use Rattle.std.specs.Prelude.{◌≡◌, List, [], ◌+◌, ◌*◌, ◌/◌, ◌%◌, ◌≤◌, ◌<◌, length, drop, get_or, set};
 ghost use Rattle.language.specs.Effects.{join, effect_of};
-ghost use Rattle.language.specs.Results.{accept};
-ghost use Rattle.prices.specs.Terms.{Term, first_number, term_line, terms_of};
+ghost use Rattle.prices.specs.Terms.{first_number, term_line};
 ghost use Rattle.prices.specs.Prices.{covers};
 ghost use Rattle.prices.specs.Calendar.{last_day};
 ghost use Rattle.language.specs.Limits.{largest};
-ghost use Rattle.terms.specs.Tables.{is_marked, Marks, Ruled, scanned, mark_words, most_days, entry};
+ghost use Rattle.terms.specs.Tables.{is_marked, RuledBy, mark_words, most_days, entry};
 ghost use Rattle.terms.specs.Entering.{is_outranked, day_entered, days_entered};
 
 use language::{LINE_REFUSAL, Refusal};
@@ -18,10 +17,19 @@ use prices::TermLine;
 const TERM_REFUSAL: u32 = 23;
 
 // One mark for each signing number, 64 to a word.
-pub const MARK_WORDS: usize = 1024;
+const MARK_WORDS: usize = 1024;
 
 // The days of the longest month.
 pub const MOST_DAYS: usize = 31;
+
+// Consecutive days of the range, at most as many as the longest month has: the first, and how many.
+#[derive(Clone, Copy)]
+pub struct Days {
+    pub first: u32,
+    pub count: usize,
+    ghost in_range: { first + count ≤ last_day + 1 },
+    ghost few: { count ≤ most_days },
+}
 
 // What a table keeps of the term that rules on a day: its line, its signing number and its cents.
 #[derive(Clone, Copy)]
@@ -103,11 +111,11 @@ fn enter_day(table: &mut [Option<Entry>], i: usize, entry: Entry)
     }
 }
 
-// Enters the term of a line for those of `count` days from a day on that lie between its edge days.
-fn enter_days(table: &mut [Option<Entry>], day: u32, count: usize, line: u32, term: &TermLine)
-    requires { (day ≤ last_day) × (count ≤ most_days) × (length table.old ≡ most_days) }
-    ensures { table.new ≡ days_entered day term.now.first term.now.last
-        (entry line term.now.signing term.now.cents) table.old 0 count }
+// Enters the term of a line for those of some days that lie between its edge days.
+fn enter_days(table: &mut [Option<Entry>], days: Days, line: u32, term: &TermLine)
+    requires { length table.old ≡ most_days }
+    ensures { table.new ≡ days_entered days.first term.now.first term.now.last
+        (entry line term.now.signing term.now.cents) table.old 0 days.count }
 {
     let TermLine { signing, cents, .. } = *term;
     let entry = Entry {
@@ -115,27 +123,20 @@ fn enter_days(table: &mut [Option<Entry>], day: u32, count: usize, line: u32, te
         signing,
         cents,
     };
-    for i in 0..count {
-        if covers(term, day + i as u32) {
+    for i in 0..days.count {
+        if covers(term, days.first + i as u32) {
             enter_day(table, i, entry);
         }
     }
 }
 
-// Scans a text of terms: marks their signing numbers, and enters those of a model for `count` days from a day on.
-pub fn scan_terms(
-    text: &[u8],
-    model: u32,
-    day: u32,
-    count: usize,
-    marks: &mut [u64],
-    table: &mut [Option<Entry>],
-) -> Result<usize, Refusal>
-    requires day_le_last_day { (day ≤ last_day) × (count ≤ most_days) }
-    requires marks { Marks marks.old [] × Ruled model day count table.old [] }
-    ensures { (result ≡ scanned (terms_of text.now)) × ((ts : List Term)
-        → terms_of text.now ≡ accept ts → Ruled model day count table.new ts) }
+// Scans a text of terms, and tells those that rule a model on some days, or the refusal of the terms. The signing numbers
+// that occurred are marked.
+pub fn scan_terms(text: &[u8], model: u32, days: Days) -> Result<[Option<Entry>; MOST_DAYS], Refusal>
+    ensures { RuledBy text.now model days.first days.count result }
 {
+    let mut marks = [0u64; MARK_WORDS];
+    let mut table = [None; MOST_DAYS];
     let mut at = 0;
     let mut line: u32 = 1;
     while at < text.len() {
@@ -145,18 +146,18 @@ pub fn scan_terms(
                 line,
             });
         };
-        if term.last < term.first || is_marked(marks, term.signing) {
+        if term.last < term.first || is_marked(&marks, term.signing) {
             return Err(Refusal {
                 number: TERM_REFUSAL,
                 line,
             });
         }
-        mark(marks, term.signing);
+        mark(&mut marks, term.signing);
         if term.model == model {
-            enter_days(table, day, count, line, &term);
+            enter_days(&mut table, days, line, &term);
         }
         at += term.end;
         line += 1;
     }
-    Ok(line as usize - 1)
+    Ok(table)
 }

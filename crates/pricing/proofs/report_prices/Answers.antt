@@ -13,26 +13,26 @@ returns-in_default c =
 pub returns-in_default-day_of_date : goal.returns-in_default-day_of_date
 returns-in_default-day_of_date c =
     let u = unmade c.args.terms.now c.args.model c.args.report.now in
-    let none = month_no_last c.args.year c.args.month c.days_in-days.ensures (sym c.day_of_date.ensures ∙ c.in-Ok.is) c.args.terms.now c.args.model
+    let none = month_no_last c.args.year c.args.month c.days_in-most.ensures (sym c.day_of_date.ensures ∙ c.in-Ok.is) c.args.terms.now c.args.model
     (sym c.day_of_date-2.ensures ∙ c.in_default-day_of_date.is) in
     rw none (ap Err c.refuse_day-in_default-day_of_date.ensures ∙ u.0, u.1)
 
-pub overflow_add-last : goal.overflow_add-last
-overflow_add-last c = omega (
+pub overflow_add-count : goal.overflow_add-count
+overflow_add-count c = omega (
   arith,
-  (month_bounds c.args.year c.args.month c.days_in-days.ensures (sym c.day_of_date.ensures ∙ c.in-Ok.is) (sym c.day_of_date-2.ensures ∙ c.in-Ok-day_of_date.is)).1,
+  (month_bounds c.args.year c.args.month c.days_in-most.ensures (sym c.day_of_date.ensures ∙ c.in-Ok.is) (sym c.day_of_date-2.ensures ∙ c.in-Ok-day_of_date.is)).1,
 )
 
-pub overflow_sub-last : goal.overflow_sub-last
-overflow_sub-last c = omega (
+pub overflow_sub-count : goal.overflow_sub-count
+overflow_sub-count c = omega (
   arith,
-  (month_bounds c.args.year c.args.month c.days_in-days.ensures (sym c.day_of_date.ensures ∙ c.in-Ok.is) (sym c.day_of_date-2.ensures ∙ c.in-Ok-day_of_date.is)).0,
+  (month_bounds c.args.year c.args.month c.days_in-most.ensures (sym c.day_of_date.ensures ∙ c.in-Ok.is) (sym c.day_of_date-2.ensures ∙ c.in-Ok-day_of_date.is)).0,
 )
 
-pub report_days-requires : goal.report_days-requires
-report_days-requires c = let b = month_bounds c.args.year c.args.month c.days_in-days.ensures (sym c.day_of_date.ensures ∙ c.in-Ok.is) (sym c.day_of_date-2.ensures ∙ c.in-Ok-day_of_date.is) in
-    (omega (arith, b.0, b.1), omega (arith, b.0, b.1), b.2)
+pub invariant_of-report_days : goal.invariant_of-report_days
+invariant_of-report_days c = let b = month_bounds c.args.year c.args.month c.days_in-most.ensures (sym c.day_of_date.ensures ∙ c.in-Ok.is) (sym c.day_of_date-2.ensures ∙ c.in-Ok-day_of_date.is) in
+    record { in_range = omega (arith, b.0, b.1); few = b.2 }
 
 pub returns : goal.returns
-returns c = let month = month_reported c.args.year c.args.month c.days_in-days.ensures (sym c.day_of_date.ensures ∙ c.in-Ok.is) (sym c.day_of_date-2.ensures ∙ c.in-Ok-day_of_date.is) c.args.terms.now c.args.model in
+returns c = let month = month_reported c.args.year c.args.month c.days_in-most.ensures (sym c.day_of_date.ensures ∙ c.in-Ok.is) (sym c.day_of_date-2.ensures ∙ c.in-Ok-day_of_date.is) c.args.terms.now c.args.model in
     rw month c.report_days.ensures

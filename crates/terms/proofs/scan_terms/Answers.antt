@@ -4,13 +4,14 @@ use Rattle.terms.proofs.Scanning.{scan_start, scan_line, scan_done, scan_malform
 use Rattle.terms.proofs.Scanning.{scan_signing}
 use Rattle.terms.proofs.Scanning.{scan_used, scan_reversed, scan_repeated, scan_step}
 use Rattle.terms.proofs.Lines.{term_at}
+use Rattle.terms.proofs.Tables.{marks_none, ruled_none}
 use Rattle.terms.proofs.Entering.{entered_of, entered_other}
 use Rattle.terms.proofs.scan_terms.Goals.{then-term-model, else-term-model}
 use Rattle.terms.proofs.scan_terms.Goals.{then-term-via-then-term, then-term-via-else-term+then-is_marked}
 use Rattle.terms.proofs.scan_terms.Goals as goal
 
 pub loop-at-init : goal.loop-at-init
-loop-at-init c = scan_start _ _ _ _ _ _ c.requires.marks.0 c.requires.marks.1
+loop-at-init c = scan_start _ _ _ _ _ _ marks_none (ruled_none c.args.model c.args.days.first c.args.days.count (omega arith))
 
 pub returns-in_default : goal.returns-in_default
 returns-in_default c = scan_malformed c.loop-at.invariant c.loop-at-test.true
@@ -59,7 +60,7 @@ pub loop-at-preserved : goal.loop-at-preserved
 loop-at-preserved c =
     let term = term_at c.loop-at.at c.args.text.now (sym c.read_term.ensures ∙ c.in-Some.is) in
     scan_step c.loop-at.invariant c.loop-at-test.true _ _ _ _ _ _ term _ _ c.if-term.false
-    (sym c.is_marked.ensures ∙ c.if-is_marked.false) c.requires.day_le_last_day.1 c.mark.ensures
+    (sym c.is_marked.ensures ∙ c.if-is_marked.false) (omega arith) c.mark.ensures
     (elim c.if-term-model.branch [
       | then-term-model w ↦
           w.table-is ∙ w.enter_days.ensures ∙ entered_of _ _ _ _ _ _ _ _ w.if-term-model.true

@@ -5,7 +5,7 @@ use Rattle.terms.proofs.Scanning.{Scanning}
 use Rattle.terms.proofs.scan_terms.Given as goal
 
 abbrev pub invariant-loop-at : goal.invariant-loop-at
-invariant-loop-at l = Scanning l.text l.model l.day l.count l.marks l.table l.at l.line
+invariant-loop-at l = Scanning l.text l.model l.days.first l.days.count l.marks l.table l.at l.line
 
 abbrev pub decreases-loop-at : goal.decreases-loop-at
 decreases-loop-at l = length l.text - l.at
