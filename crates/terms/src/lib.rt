@@ -132,7 +132,11 @@ fn enter_days(table: &mut [Option<Entry>], days: Days, line: u32, term: &TermLin
 
 // Scans a text of terms, and tells those that rule a model on some days, or the refusal of the terms. The signing numbers
 // that occurred are marked.
-pub fn scan_terms(text: &[u8], model: u32, days: Days) -> Result<[Option<Entry>; MOST_DAYS], Refusal>
+pub fn scan_terms(
+    text: &[u8],
+    model: u32,
+    days: Days,
+) -> Result<[Option<Entry>; MOST_DAYS], Refusal>
     ensures { RuledBy text.now model days.first days.count result }
 {
     let mut marks = [0u64; MARK_WORDS];
