@@ -17,14 +17,15 @@ use Rattle.language.specs.World.{World}
 use Rattle.language.specs.Program.{world}
 use Rattle.language.specs.Verdict.{check}
 use Rattle.fleet.specs.Counts.{Counts, relates, knows_all, count_below, labels_of, classes_in}
-use Rattle.fleet.specs.declared.Count.TheVariants.{Labels, Refused}
-use Rattle.fleet.specs.Counts.{count_told, implemented, through_next, classes_through, run_counts}
+use Rattle.std.specs.Prelude.{Some, None}
+use Rattle.fleet.specs.declared.Labels.{Labels}
+use Rattle.fleet.specs.Counts.{implemented, through_next, classes_through, run_counts}
 use Rattle.fleet.specs.Counts.{is_made, class_of_value, counts_through}
 use Rattle.counting.specs.declared.Ended.{Ended}
 use Rattle.counting.specs.declared.Ended.TheVariants.{In, NoLabel, Lost}
 use Rattle.counting.specs.Labels.{counted, class_made, implementor_ended, ended_at, added, labels_next}
-use Rattle.counting.specs.Labels.{counts_of}
-use Rattle.counting.proofs.Objects.{told_labels, told_refused}
+use Rattle.counting.specs.Labels.{counts_of, labels_told}
+use Rattle.counting.proofs.Objects.{told_labels, told_none}
 
 module _ (W : World) (d e : ℕ) where
   -- The counts p and s with objects that ended in these classes; none where the program lacks one of them.
@@ -146,17 +147,17 @@ module _ (W : World) (d e : ℕ) where
           rw (q, drop-drop object_width (object_width * i) store, r)
 
       pub next_some : (o : Ended) → o ≡ ended_at plain n store (drop (object_width * i) store)
-          → (x y : ℕ) → Labels x y ≡ count_told (added W d e p s o)
+          → (x : Labels) → Some x ≡ labels_told (added W d e p s o)
           → labels_next W d e plain n store (n - i) (drop (object_width * i) store) p s
-          ≡ labels_next W d e plain n store (n - (i + 1)) (drop (object_width * (i + 1)) store) x y
-      next_some o q x y f =
-          next_is (n - (i + 1)) (omega arith) ∙ rw (sym q, told_labels (added W d e p s o) x y f)
+          ≡ labels_next W d e plain n store (n - (i + 1)) (drop (object_width * (i + 1)) store) x.printed x.spoiled
+      next_some o q x f =
+          next_is (n - (i + 1)) (omega arith) ∙ rw (sym q, told_labels (added W d e p s o) x f)
 
       pub next_none : (o : Ended) → o ≡ ended_at plain n store (drop (object_width * i) store)
-          → (x y : ℕ) → Refused x y ≡ count_told (added W d e p s o)
+          → None ≡ labels_told (added W d e p s o)
           → labels_next W d e plain n store (n - i) (drop (object_width * i) store) p s ≡ none
-      next_none o q x y f =
-          next_is (n - (i + 1)) (omega arith) ∙ rw (sym q, told_refused (added W d e p s o) x y f)
+      next_none o q f =
+          next_is (n - (i + 1)) (omega arith) ∙ rw (sym q, told_none (added W d e p s o) f)
 
     pub next_start : (plain : Bool)
         → labels_next W d e plain n store n store 0 0

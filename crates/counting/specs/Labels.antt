@@ -2,16 +2,24 @@
 -- with one more object. The store of a run and a plain store are counted in the same way; the results are those that
 -- Counts, in fleet, defines.
 use Rattle.std.specs.Prelude.{Bool, true, false, cond, List, ℕ, zero, suc, ◌+◌, ◌-◌, eqb, leb, get_or, drop}
+use Rattle.std.specs.Prelude.{Option as Found, Some, None}
 use Rattle.std.proofs.Math.Option.{Option, none, some}
 use Rattle.language.specs.Limits.{object_width, object_class, identity_class, fickle_class}
 use Rattle.language.specs.Lists.{choice, bind_option}
 use Rattle.language.specs.World.{World}
+use Rattle.fleet.specs.declared.Labels.{Labels}
+use Rattle.fleet.specs.Counts.{labels}
 use Rattle.fleet.specs.Counts.{Counts, is_made, class_of_value, run_counts, counts_through}
 use Rattle.counting.specs.declared.Ended.{Ended}
 use Rattle.counting.specs.declared.Ended.TheVariants.{In, NoLabel, Lost}
 
 abbrev pub counted : ℕ → ℕ → Counts
 counted p s = record { printed = p; spoiled = s }
+
+-- The labels as the code has them.
+abbrev pub labels_told : Option Counts → Found Labels
+labels_told none = None
+labels_told (some c) = Some (labels c.printed c.spoiled)
 
 -- The class of the object that a value is, among the first n objects of a store; Object where it is none of them.
 abbrev pub class_made : ℕ → List ℕ → ℕ → ℕ

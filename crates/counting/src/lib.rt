@@ -2,33 +2,46 @@
 // the store that its plain run left (document 02, §1).
 #![tactic(auto)]
 
-ghost use Rattle.std.specs.Prelude.{◌≡◌, true, false, cond, ◌+◌, ◌*◌, ◌/◌, ◌≤◌, ◌<◌, length, drop};
+ghost use Rattle.std.specs.Prelude.{◌≡◌, Bool, true, false, cond, ◌+◌, ◌*◌, ◌/◌, ◌≤◌, ◌<◌, length, drop};
 ghost use Rattle.std.proofs.Math.Option.{none};
 ghost use Rattle.language.specs.Program.{world};
+ghost use Rattle.language.specs.Refusals.{refusal};
 ghost use Rattle.fleet.specs.Counts.{relates, run_counts, counts_through, count_told};
+ghost use Rattle.fleet.specs.Counts.{class_refusal, first_place};
 ghost use Rattle.classes.specs.Subclasses.{is_below};
-ghost use Rattle.counting.specs.Knowing.{known_case, Knows, Knowing, Serves};
+ghost use Rattle.counting.specs.Knowing.{Knows, Knowing, Serves, declares};
 ghost use Rattle.counting.specs.Labels.{class_made, implementor_ended, ended_at, added, labels_next};
-ghost use Rattle.counting.specs.Labels.{counts_of};
+ghost use Rattle.counting.specs.Labels.{counts_of, labels_told, counted};
 ghost use Rattle.language.specs.Limits.{of_check, object_width};
 
-use language::{ALL_CLASSES, FICKLE, IDENTITY, OBJECT_WIDTH, Type};
-
-// What is known of checked rows: how many classes they declare, or that they are refused.
-#[derive(Clone, Copy)]
-pub enum Known {
-    Classes(u32),
-    Refused,
-}
+use fleet::Labels;
+use language::{ALL_CLASSES, FICKLE, IDENTITY, OBJECT_WIDTH, Refusal, Type};
 
 // What an object of a store says of a label: the class it ended in, that it is not a label, or that its class is not to be
 // found.
-#[derive(Drop)]
+#[derive(Clone, Copy)]
 enum Ended {
     In(u32),
     NoLabel,
     Lost,
 }
+
+// How an object of a store tells of a label.
+trait Reading {
+    // Whether the store is a plain one.
+    ghost plain: { Bool };
+
+    // What an object among the first objects of a store says of a label.
+    fn ended(store: &[u32], objects: u32, at: usize) -> Ended
+        requires { (at < objects) × (objects ≤ length store.now / object_width) }
+        ensures { result ≡ ended_at plain objects store.now (drop (object_width * at) store.now) };
+}
+
+// In the store of a run every object ended in its class.
+struct RunStore;
+
+// In a plain store the Identities stand for the source's objects, and the first field of each has the implementor.
+struct PlainStore;
 
 // The value of the first object that is made.
 const FIRST_OBJECT: u32 = 3;
@@ -36,59 +49,40 @@ const FIRST_OBJECT: u32 = 3;
 // The number of the refusal of a run.
 pub const CLASS_REFUSAL: u32 = 18;
 
-// The refusal of a run whose program, classes or store do not serve.
-fn refused() -> fleet::Count
-    ensures { result ≡ count_told none }
+// The refusal of a run whose program, classes or store do not serve; a run by itself is the first of its fleet.
+fn refused() -> Refusal
+    ensures { result ≡ refusal class_refusal first_place }
 {
-    fleet::Count::Refused(CLASS_REFUSAL, 1)
-}
-
-// What is known after a check.
-fn known_of(checked: passes::Checked) -> Known
-    ensures { result ≡ known_case checked }
-{
-    match checked {
-        passes::Checked::Accepted(classes) => Known::Classes(classes),
-        passes::Checked::Refused(_, _) => Known::Refused,
+    Refusal {
+        number: CLASS_REFUSAL,
+        line: 1,
     }
 }
 
-// Checks rows, and keeps which class stands below which.
-pub fn learn(rows: &[u32], above: &mut [u64]) -> Known
+// Checks rows, and keeps which class stands below which: how many classes they declare, or that they are refused.
+pub fn learn(rows: &[u32], above: &mut [u64]) -> Option<u32>
     requires { of_check.classes + 1 ≤ length above.old }
     ensures { Knows rows.now above.new result }
 {
-    let checked = checker::check_above(rows, above);
-    known_of(checked)
-}
-
-// Whether two programs are the same rows.
-fn same_rows(rows: &[u32], before: &[u32]) -> bool
-    ensures yes { result ≡ true → before.now ≡ rows.now }
-    ensures no { result ≡ false → before.now ≡ rows.now → ⊥ }
-{
-    if rows.len() != before.len() {
-        return false;
-    }
-    let mut i = 0;
-    while i < rows.len() {
-        if before[i] != rows[i] {
-            return false;
-        }
-        i += 1;
-    }
-    true
+    checker::check_above(rows, above).ok()
 }
 
 // What is known of rows, after the rows before them: the same rows are not checked again.
-pub fn know(rows: &[u32], before: &[u32], known: Known, above: &mut [u64]) -> Known
+pub fn know(rows: &[u32], before: &[u32], known: Option<u32>, above: &mut [u64]) -> Option<u32>
     requires { Knows before.now above.old known }
     ensures { Knows rows.now above.new result }
 {
-    if same_rows(rows, before) {
+    if rows == before {
         return known;
     }
     learn(rows, above)
+}
+
+// Whether a program with so many classes declares a class; Object is declared by none.
+fn is_declared(classes: u32, class: u32) -> bool
+    ensures { result ≡ declares classes class }
+{
+    Type::OBJECT < class && class <= classes
 }
 
 // Whether a program declares both classes, and spoiled lies strictly below printed.
@@ -97,19 +91,7 @@ fn is_related(above: &[u64], classes: u32, printed: u32, spoiled: u32) -> bool
     ensures { (w : Serves above.now classes)
         → result ≡ relates (world w.program) printed spoiled }
 {
-    if printed == Type::OBJECT {
-        return false;
-    }
-    if classes < printed {
-        return false;
-    }
-    if spoiled == Type::OBJECT {
-        return false;
-    }
-    if classes < spoiled {
-        return false;
-    }
-    if spoiled == printed {
+    if !is_declared(classes, printed) || !is_declared(classes, spoiled) || spoiled == printed {
         return false;
     }
     classes::is_below(above, spoiled, printed)
@@ -131,13 +113,10 @@ fn class_of(store: &[u32], objects: u32, value: u32) -> u32
     requires { objects ≤ length store.now / object_width }
     ensures { result ≡ class_made objects store.now value }
 {
-    if value < FIRST_OBJECT {
-        return 0;
+    match value.checked_sub(FIRST_OBJECT) {
+        Some(made) if made < objects => store[OBJECT_WIDTH * made as usize],
+        _ => Type::OBJECT,
     }
-    if objects <= value - FIRST_OBJECT {
-        return 0;
-    }
-    store[OBJECT_WIDTH * (value - FIRST_OBJECT) as usize]
 }
 
 // What an implementor in a plain store says: the class of the source that it stands for. Other objects are no
@@ -145,137 +124,141 @@ fn class_of(store: &[u32], objects: u32, value: u32) -> u32
 fn implementor_ended(class: u32) -> Ended
     ensures { result ≡ implementor_ended class }
 {
-    if class < FICKLE {
-        return Ended::Lost;
+    match class.checked_sub(FICKLE) {
+        Some(class) => Ended::In(class),
+        None => Ended::Lost,
     }
-    Ended::In(class - FICKLE)
 }
 
-// What an object says of a label. In the store of a run every object ended in its class; in a plain store the Identities
-// stand for the source's objects, and the first field of each has the implementor.
-fn object_ended(store: &[u32], objects: u32, at: usize, plain: bool) -> Ended
-    requires { (at < objects) × (objects ≤ length store.now / object_width) }
-    ensures { result ≡ ended_at plain objects store.now
-        (drop (object_width * at) store.now) }
-{
-    let class = store[OBJECT_WIDTH * at];
-    if !plain {
-        return Ended::In(class);
+impl Reading for RunStore {
+    ghost plain = { false };
+
+    fn ended(store: &[u32], _objects: u32, at: usize) -> Ended {
+        Ended::In(store[OBJECT_WIDTH * at])
     }
-    if class != IDENTITY {
-        return Ended::NoLabel;
-    }
-    let held = class_of(store, objects, store[OBJECT_WIDTH * at + 1]);
-    implementor_ended(held)
 }
 
-// The labels so far, with what one more object says.
+impl Reading for PlainStore {
+    ghost plain = { true };
+
+    fn ended(store: &[u32], objects: u32, at: usize) -> Ended {
+        let class = store[OBJECT_WIDTH * at];
+        if class != IDENTITY {
+            return Ended::NoLabel;
+        }
+        let held = class_of(store, objects, store[OBJECT_WIDTH * at + 1]);
+        implementor_ended(held)
+    }
+}
+
+// The labels so far, with what one more object says; none where the program lacks its class.
 fn count_object(
     above: &[u64],
     classes: u32,
     printed: u32,
     spoiled: u32,
     ended: Ended,
-    prints: u32,
-    spoils: u32,
-) -> fleet::Count
+    labels: Labels,
+) -> Option<Labels>
     requires { Serves above.now classes × (printed ≤ of_check.classes) × (spoiled ≤ of_check.classes)
-        × (prints < 4294967295) × (spoils < 4294967295) }
+        × (labels.printed < 4294967295) × (labels.spoiled < 4294967295) }
     ensures { (w : Serves above.now classes)
-        → result ≡ count_told (added (world w.program) printed spoiled prints spoils ended) }
+        → result ≡ labels_told (added (world w.program) printed spoiled labels.printed labels.spoiled ended) }
 {
     match ended {
         Ended::In(class) => {
             if classes < class {
-                return refused();
+                return None;
             }
-            let p = count_below(above, prints, class, printed);
-            let s = count_below(above, spoils, class, spoiled);
-            fleet::Count::Labels(p, s)
+            Some(Labels {
+                printed: count_below(above, labels.printed, class, printed),
+                spoiled: count_below(above, labels.spoiled, class, spoiled),
+            })
         }
-        Ended::NoLabel => fleet::Count::Labels(prints, spoils),
-        Ended::Lost => refused(),
+        Ended::NoLabel => Some(labels),
+        Ended::Lost => None,
     }
 }
 
 // The labels among the first objects of a store, of a program that declares both classes.
-fn count_objects(
+fn count_objects<R: Reading>(
     above: &[u64],
     classes: u32,
     store: &[u32],
     objects: u32,
-    plain: bool,
     printed: u32,
     spoiled: u32,
-) -> fleet::Count
+) -> Option<Labels>
     requires { Serves above.now classes × (printed ≤ of_check.classes) × (spoiled ≤ of_check.classes)
         × (objects ≤ length store.now / object_width) }
     ensures { (w : Serves above.now classes)
-        → result ≡ count_told (labels_next (world w.program) printed spoiled plain objects store.now
+        → result ≡ labels_told (labels_next (world w.program) printed spoiled R.plain objects store.now
         objects store.now 0 0) }
 {
-    let mut prints = 0;
-    let mut spoils = 0;
-    let mut i = 0;
-    while i < objects as usize {
-        let ended = object_ended(store, objects, i, plain);
-        let next = count_object(above, classes, printed, spoiled, ended, prints, spoils);
-        match next {
-            fleet::Count::Labels(p, s) => {
-                prints = p;
-                spoils = s;
-            }
-            fleet::Count::Refused(_, _) => {
-                return refused();
-            }
-        }
-        i += 1;
+    let mut labels = Labels {
+        printed: 0,
+        spoiled: 0,
+    };
+    for at in 0..objects as usize {
+        let ended = R::ended(store, objects, at);
+        labels = count_object(above, classes, printed, spoiled, ended, labels)?;
     }
-    fleet::Count::Labels(prints, spoils)
+    Some(labels)
 }
 
 // The labels of a run whose rows are known, by its store or by that of its plain run.
-fn count_known(
-    known: Known,
+fn count_known<R: Reading>(
+    known: Option<u32>,
     above: &[u64],
     store: &[u32],
     objects: u32,
-    plain: bool,
     printed: u32,
     spoiled: u32,
-) -> fleet::Count
+) -> Result<Labels, Refusal>
     requires { Knowing above.now known }
     ensures { (w : Knowing above.now known)
-        → result ≡ count_told (counts_of plain w.rows store.now objects printed spoiled) }
+        → result ≡ count_told (counts_of R.plain w.rows store.now objects printed spoiled) }
 {
-    match known {
-        Known::Classes(classes) => {
-            if store.len() / OBJECT_WIDTH < objects as usize {
-                return refused();
-            }
-            if !is_related(above, classes, printed, spoiled) {
-                return refused();
-            }
-            count_objects(above, classes, store, objects, plain, printed, spoiled)
-        }
-        Known::Refused => refused(),
+    let Some(classes) = known else {
+        return Err(refused());
+    };
+    if store.len() / OBJECT_WIDTH < objects as usize
+        || !is_related(above, classes, printed, spoiled)
+    {
+        return Err(refused());
     }
+    count_objects::<R>(above, classes, store, objects, printed, spoiled).ok_or(refused())
 }
 
 // The labels of a run whose rows are known, by the store it left.
 pub fn count_labels(
-    known: Known,
+    known: Option<u32>,
     above: &[u64],
     store: &[u32],
     objects: u32,
     printed: u32,
     spoiled: u32,
-) -> fleet::Count
+) -> Result<Labels, Refusal>
     requires { Knowing above.now known }
     ensures { (w : Knowing above.now known)
         → result ≡ count_told (run_counts w.rows store.now objects printed spoiled) }
 {
-    count_known(known, above, store, objects, false, printed, spoiled)
+    count_known::<RunStore>(known, above, store, objects, printed, spoiled)
+}
+
+// The labels of a run of rows, by its store or by that of its plain run.
+fn count_rows<R: Reading>(
+    rows: &[u32],
+    store: &[u32],
+    objects: u32,
+    printed: u32,
+    spoiled: u32,
+) -> Result<Labels, Refusal>
+    ensures { result ≡ count_told (counts_of R.plain rows.now store.now objects printed spoiled) }
+{
+    let mut above = [0u64; ALL_CLASSES];
+    let known = learn(rows, &mut above);
+    count_known::<R>(known, &above, store, objects, printed, spoiled)
 }
 
 // The labels of a run of rows that made `objects` objects and left this store.
@@ -285,13 +268,10 @@ pub fn count_run(
     objects: u32,
     printed: u32,
     spoiled: u32,
-) -> fleet::Count
-    ensures { result ≡ count_told (run_counts rows.now store.now objects printed
-        spoiled) }
+) -> Result<Labels, Refusal>
+    ensures { result ≡ count_told (run_counts rows.now store.now objects printed spoiled) }
 {
-    let mut above = [0u64; ALL_CLASSES];
-    let known = learn(rows, &mut above);
-    count_known(known, &above, store, objects, false, printed, spoiled)
+    count_rows::<RunStore>(rows, store, objects, printed, spoiled)
 }
 
 // The labels of a run of rows, through the store that a run of their plain program left with `objects` objects.
@@ -301,11 +281,8 @@ pub fn count_plain_run(
     objects: u32,
     printed: u32,
     spoiled: u32,
-) -> fleet::Count
-    ensures { result ≡ count_told (counts_through rows.now store.now objects printed
-        spoiled) }
+) -> Result<Labels, Refusal>
+    ensures { result ≡ count_told (counts_through rows.now store.now objects printed spoiled) }
 {
-    let mut above = [0u64; ALL_CLASSES];
-    let known = learn(rows, &mut above);
-    count_known(known, &above, store, objects, true, printed, spoiled)
+    count_rows::<PlainStore>(rows, store, objects, printed, spoiled)
 }

@@ -8,13 +8,10 @@ use Rattle.counting.specs.Knowing.{Serves}
 use Rattle.counting.specs.Labels.{labels_next}
 use Rattle.counting.proofs.count_objects.Given as goal
 
-abbrev pub invariant-loop-i : goal.invariant-loop-i
-invariant-loop-i l = (l.i ≤ l.objects) × (l.prints ≤ l.i) × (l.spoils ≤ l.i)
+abbrev pub invariant-loop-at : goal.invariant-loop-at
+invariant-loop-at g l = (l.labels.printed ≤ l.at) × (l.labels.spoiled ≤ l.at)
     × ((w : Serves l.above l.classes)
-    → labels_next (world w.program) l.printed l.spoiled l.plain l.objects l.store l.objects l.store 0 0
-    ≡ labels_next (world w.program) l.printed l.spoiled l.plain l.objects l.store (l.objects - l.i)
-    (drop (object_width * l.i) l.store)
-    l.prints l.spoils)
-
-abbrev pub decreases-loop-i : goal.decreases-loop-i
-decreases-loop-i l = l.objects - l.i
+    → labels_next (world w.program) l.printed l.spoiled g.R.Reading.plain l.objects l.store l.objects l.store 0 0
+    ≡ labels_next (world w.program) l.printed l.spoiled g.R.Reading.plain l.objects l.store (l.objects - l.at)
+    (drop (object_width * l.at) l.store)
+    l.labels.printed l.labels.spoiled)

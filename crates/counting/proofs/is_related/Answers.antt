@@ -1,33 +1,24 @@
 -- `counting::is_related` meets its contract. Assumes nothing.
-use mathlib.Core.Path.{◌∙◌}
-use Rattle.counting.proofs.Knowledge.{printed_object, printed_unknown, spoiled_object, spoiled_unknown}
-use Rattle.counting.proofs.Knowledge.{spoiled_printed, spoiled_below}
+use mathlib.Core.Path.{sym, ◌∙◌}
+use Rattle.counting.proofs.Knowledge.{printed_unknown, spoiled_unknown, spoiled_printed, spoiled_below}
 use Rattle.counting.proofs.is_related.Goals as goal
+use Rattle.counting.proofs.is_related.Goals.{then-not-is_declared-via-then-not-is_declared}
+use Rattle.counting.proofs.is_related.Goals.{then-not-is_declared-via-else-not-is_declared+then-not-is_declared-2}
+use Rattle.counting.proofs.is_related.Goals.{then-not-is_declared-via-else-not-is_declared+else-not-is_declared-2+then-spoiled-printed}
 
-pub returns-then-printed-eq-OBJECT : goal.returns-then-printed-eq-OBJECT
-returns-then-printed-eq-OBJECT c = λ w. printed_object w c.args.printed c.args.spoiled
-    c.if-printed-eq-OBJECT.true
-
-pub returns-then-classes-printed : goal.returns-then-classes-printed
-returns-then-classes-printed c = λ w. printed_unknown w c.args.printed
-    c.args.spoiled c.if-printed-eq-OBJECT.false c.if-classes-printed.true
-
-pub returns-then-spoiled-eq-OBJECT : goal.returns-then-spoiled-eq-OBJECT
-returns-then-spoiled-eq-OBJECT c = λ w. spoiled_object w c.args.printed c.args.spoiled c.if-printed-eq-OBJECT.false
-    c.if-classes-printed.false c.if-spoiled-eq-OBJECT.true
-
-pub returns-then-classes-spoiled : goal.returns-then-classes-spoiled
-returns-then-classes-spoiled c = λ w. spoiled_unknown w c.args.printed c.args.spoiled
-    c.if-printed-eq-OBJECT.false c.if-classes-printed.false c.if-spoiled-eq-OBJECT.false
-    c.if-classes-spoiled.true
-
-pub returns-then-spoiled-printed : goal.returns-then-spoiled-printed
-returns-then-spoiled-printed c = λ w. spoiled_printed w c.args.printed c.args.spoiled c.if-printed-eq-OBJECT.false
-    c.if-classes-printed.false c.if-spoiled-eq-OBJECT.false c.if-classes-spoiled.false
-    c.if-spoiled-printed.true
+pub returns-then-not-is_declared : goal.returns-then-not-is_declared
+returns-then-not-is_declared c = λ w. elim c.then-not-is_declared.branch [
+  | then-not-is_declared-via-then-not-is_declared v ↦
+      printed_unknown w _ _ (sym c.is_declared.ensures ∙ v.if-not-is_declared.true)
+  | then-not-is_declared-via-else-not-is_declared+then-not-is_declared-2 v ↦
+      spoiled_unknown w _ _ (sym c.is_declared.ensures ∙ v.if-not-is_declared.false)
+      (sym v.is_declared-else-not-is_declared.ensures ∙ v.if-not-is_declared-2.true)
+  | then-not-is_declared-via-else-not-is_declared+else-not-is_declared-2+then-spoiled-printed v ↦
+      spoiled_printed w _ _ (sym c.is_declared.ensures ∙ v.if-not-is_declared.false)
+      (sym v.is_declared-else-not-is_declared.ensures ∙ v.if-not-is_declared-2.false) v.if-spoiled-printed.true
+]
 
 pub returns : goal.returns
 returns c = λ w. c.is_below.ensures
-    ∙ spoiled_below w c.args.printed c.args.spoiled c.if-printed-eq-OBJECT.false
-    c.if-classes-printed.false c.if-spoiled-eq-OBJECT.false c.if-classes-spoiled.false
-    c.if-spoiled-printed.false
+    ∙ spoiled_below w _ _ (sym c.is_declared.ensures ∙ c.if-not-is_declared.false)
+    (sym c.is_declared-else-not-is_declared.ensures ∙ c.if-not-is_declared-2.false) c.if-spoiled-printed.false
