@@ -8,7 +8,6 @@ ghost use Rattle.language.specs.Results.{accept};
 ghost use Rattle.language.specs.Filling.{answer, buffer};
 ghost use Rattle.prices.specs.Terms.{terms_of};
 ghost use Rattle.prices.specs.Prices.{term_on, told_price, price_on_day, price_on_date};
-ghost use Rattle.terms.specs.Tables.{most_days};
 ghost use Rattle.prices.specs.Calendar.{last_day};
 ghost use Rattle.prices.specs.Reports.{days_from, price_run, price_runs, run_line, run_lines};
 ghost use Rattle.prices.specs.Reports.{days_report, price_report};

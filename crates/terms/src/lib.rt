@@ -1,7 +1,7 @@
 // Price terms read from text, and the terms that rule on some days (document 02, §11).
 #![tactic(auto)]
 
-ghost use Rattle.std.specs.Prelude.{◌≡◌, List, [], ◌+◌, ◌*◌, ◌/◌, ◌%◌, ◌≤◌, ◌<◌, length, drop, get_or, set};
+ghost use Rattle.std.specs.Prelude.{◌≡◌, ◌+◌, ◌/◌, ◌%◌, ◌≤◌, ◌<◌, length, get_or, set};
 ghost use Rattle.language.specs.Effects.{join, effect_of};
 ghost use Rattle.prices.specs.Terms.{first_number, term_line};
 ghost use Rattle.prices.specs.Prices.{covers};

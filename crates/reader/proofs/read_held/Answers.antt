@@ -29,4 +29,6 @@ returns g c =
     let whole = read_whole ours 60000 1 text in
     let fits = read_fits ours text g.row.ROOM c.requires.enough in
     let e : length (made_numbers (read_text ours text)) ≡ c.in_ok-parsed.parsed * 4 = omega (arith, made, whole) in
-    filled_done 4 (read_text ours text) _ rows t (omega (arith, e)) c.parse_lines.new.held _ (omega (arith, fits, c.parse_lines.auto.held, replicate_long g.row.ROOM)) (λ m. (_, c.parse_lines.auto.held, c.parse_lines.ensures.1 m)) (rw (e, c.copy_from_slice.ensures.after) refl)
+    filled_done 4 (read_text ours text) _ rows t (omega (arith, e)) c.parse_lines.new.held _
+    (omega (arith, fits, c.parse_lines.auto.held, replicate_long g.row.ROOM))
+    (λ m. (_, c.parse_lines.auto.held, c.parse_lines.ensures.1 m)) (rw (e, c.copy_from_slice.ensures.after) refl)

@@ -27,8 +27,10 @@ pub returns-then-not-is_row : goal.returns-then-not-is_row
 returns-then-not-is_row c =
     let i : c.loop-at.at * 4 < length c.args.rows.now = omega arith in
     let bad = sym c.is_row.ensures ∙ c.if-not-is_row.true in (
-      formatting_bad c.loop-at.invariant i (omega arith) _ _ _ _ c.letter_at-code.ensures c.first-a.ensures c.second-b.ensures refl bad,
-      λ m. formatting_bad_held c.loop-at.invariant i (omega arith) _ _ _ _ c.letter_at-code.ensures c.first-a.ensures c.second-b.ensures refl bad m,
+      formatting_bad c.loop-at.invariant i (omega arith) _ _ _ _ c.letter_at-code.ensures c.first-a.ensures
+          c.second-b.ensures refl bad,
+      λ m. formatting_bad_held c.loop-at.invariant i (omega arith) _ _ _ _ c.letter_at-code.ensures c.first-a.ensures
+          c.second-b.ensures refl bad m,
     )
 
 pub write_line-end-requires : goal.write_line-end-requires
@@ -36,7 +38,8 @@ write_line-end-requires c =
     let i : c.loop-at.at * 4 < length c.args.rows.now = omega arith in
     let good = sym c.is_row.ensures ∙ c.if-not-is_row.false in (
       row_known _ _ _ _ good,
-      formatting_fits c.loop-at.invariant i (omega arith) _ _ _ _ c.letter_at-code.ensures c.first-a.ensures c.second-b.ensures refl good c.requires,
+      formatting_fits c.loop-at.invariant i (omega arith) _ _ _ _ c.letter_at-code.ensures c.first-a.ensures
+          c.second-b.ensures refl good c.requires,
     )
 
 pub loop-at-preserved : goal.loop-at-preserved
@@ -44,7 +47,8 @@ loop-at-preserved c =
     let i : c.loop-at.at * 4 < length c.args.rows.now = omega arith in
     let good = sym c.is_row.ensures ∙ c.if-not-is_row.false in
     let next : (c.loop-at.at + 1) * 4 ≡ c.loop-at.at * 4 + 4 = omega arith in
-    rw next (formatting_step c.loop-at.invariant i (omega arith) _ _ _ _ c.letter_at-code.ensures c.first-a.ensures c.second-b.ensures refl good _ _ c.write_line-end.ensures.1 c.write_line-end.ensures.0)
+    rw next (formatting_step c.loop-at.invariant i (omega arith) _ _ _ _ c.letter_at-code.ensures c.first-a.ensures
+    c.second-b.ensures refl good _ _ c.write_line-end.ensures.1 c.write_line-end.ensures.0)
 
 pub returns : goal.returns
 returns c =
