@@ -26,6 +26,22 @@ use language::{
     Refusal, Type, class_entry, first, letter_at, second,
 };
 
+// A method's heading in the rows: its M line's row, and how many P and X lines follow.
+#[derive(Clone, Copy)]
+pub struct Heading {
+    pub row: usize,
+    pub parameters: usize,
+    pub effects: usize,
+}
+
+// The class whose methods are entered: its number, the number of its first method, and how many classes there are.
+#[derive(Clone, Copy)]
+pub struct Owner {
+    pub class: usize,
+    pub first: usize,
+    pub classes: usize,
+}
+
 // The set of the classes on X lines.
 pub fn effect_set(rows: &[u32], r: usize, n: usize) -> u64
     requires { ClassLines rows.now r n }
@@ -58,57 +74,54 @@ pub fn same_types(rows: &[u32], p: usize, q: usize, n: usize) -> bool
     (0..n).all(|i| first(rows, p + i) == first(rows, q + i))
 }
 
-// May the method at a row, with its counts of P and X lines, override the method of number n.
+// May a method override the method of number n.
 pub fn may_override(
     rows: &[u32],
     methods: &[u16],
     effects: &[u64],
-    r: usize,
-    np: usize,
-    nx: usize,
+    heading: Heading,
     n: usize,
 ) -> bool
-    requires { OverrideReady rows.now methods.now effects.now r np nx n }
-    ensures { (w : OverrideReady rows.now methods.now effects.now r
-        np nx n) → result ≡ may_override w.method (some w.found) }
+    requires { OverrideReady rows.now methods.now effects.now heading.row heading.parameters
+        heading.effects n }
+    ensures { (w : OverrideReady rows.now methods.now effects.now heading.row heading.parameters
+        heading.effects n) → result ≡ may_override w.method (some w.found) }
 {
     let over = usize::from(methods[n * METHOD_WIDTH]);
-    first(rows, r) == first(rows, over)
-        && usize::from(methods[n * METHOD_WIDTH + PARAMETERS_PLACE]) == np
-        && same_types(rows, r + 1, over + 1, np)
-        && lines_within(rows, r + 1 + np, nx, effects[n])
+    let from = heading.row + 1;
+    first(rows, heading.row) == first(rows, over)
+        && usize::from(methods[n * METHOD_WIDTH + PARAMETERS_PLACE]) == heading.parameters
+        && same_types(rows, from, over + 1, heading.parameters)
+        && lines_within(rows, from + heading.parameters, heading.effects, effects[n])
 }
 
-// Checks the M line of a row in class k, whose first method has number `first`.
+// Checks the M line of a method in a class.
 pub fn check_method_line(
     rows: &[u32],
     tables: &[u16],
     methods: &[u16],
     effects: &[u64],
-    r: usize,
-    np: usize,
-    nx: usize,
-    k: usize,
-    first: usize,
-    count: usize,
+    heading: Heading,
+    owner: Owner,
 ) -> Result<(), Refusal>
-    requires { MethodCounted rows.now tables.now methods.now effects.now r np nx k first count }
-    ensures { (w : MethodCounted rows.now tables.now methods.now
-        effects.now r np nx k first count)
+    requires { MethodCounted rows.now tables.now methods.now effects.now heading.row
+        heading.parameters heading.effects owner.class owner.first owner.classes }
+    ensures { (w : MethodCounted rows.now tables.now methods.now effects.now heading.row
+        heading.parameters heading.effects owner.class owner.first owner.classes)
         → result ≡ result_of (λ u. u) (faulty (fault_of_method w.line.program.classes w.line.super
-        w.line.before w.line.method) (r + 1) passed) }
+        w.line.before w.line.method) (heading.row + 1) passed) }
 {
-    let line = r as u32 + 1;
-    let name = second(rows, r) as usize;
-    let entry = usize::from(tables[k * CLASS_WIDTH + METHODS_FROM + name]);
+    let line = heading.row as u32 + 1;
+    let name = second(rows, heading.row) as usize;
+    let entry = usize::from(tables[owner.class * CLASS_WIDTH + METHODS_FROM + name]);
     // An entry above `first` is of a method declared in this class before.
-    if !is_declared(language::first(rows, r), count) || first < entry {
+    if !is_declared(first(rows, heading.row), owner.classes) || owner.first < entry {
         return Err(Refusal {
             number: NAME_REFUSAL,
             line,
         });
     }
-    if entry == 0 || may_override(rows, methods, effects, r, np, nx, entry - 1) {
+    if entry == 0 || may_override(rows, methods, effects, heading, entry - 1) {
         return Ok(());
     }
     // The heading differs from the one that it overrides.
@@ -183,66 +196,70 @@ pub fn check_effects(
     Ok(())
 }
 
-// Enters method `next`, whose M line is row r of class k, with its counts of P and X lines.
+// Enters method `next`, of a class.
 pub fn enter_method(
     rows: &[u32],
     methods: &mut [u16],
     effects: &mut [u64],
-    r: usize,
-    np: usize,
-    nx: usize,
-    k: usize,
+    heading: Heading,
+    class: usize,
     next: usize,
 )
-    requires { NumberReady rows.now methods.old effects.old r np nx k next }
-    ensures { (w : NumberReady rows.now methods.old effects.old r np
-        nx k next)
+    requires { NumberReady rows.now methods.old effects.old heading.row heading.parameters
+        heading.effects class next }
+    ensures { (w : NumberReady rows.now methods.old effects.old heading.row heading.parameters
+        heading.effects class next)
         → Numbered w.program.classes methods.new effects.new (next + 1) }
 {
     let at = next * METHOD_WIDTH;
-    methods[at] = r as u16;
-    methods[at + OWNER_PLACE] = k as u16;
-    methods[at + PARAMETERS_PLACE] = np as u16;
-    methods[at + BODY_PLACE] = (r + 1 + np + nx) as u16;
-    effects[next] = effect_set(rows, r + 1 + np, nx);
+    let from = heading.row + 1 + heading.parameters; // the first X line
+    methods[at] = heading.row as u16;
+    methods[at + OWNER_PLACE] = class as u16;
+    methods[at + PARAMETERS_PLACE] = heading.parameters as u16;
+    methods[at + BODY_PLACE] = (from + heading.effects) as u16;
+    effects[next] = effect_set(rows, from, heading.effects);
 }
 
-// Checks and enters the method of an M line in class k: it has number `next`, the first of its class has `first`.
+// Checks and enters the method of the M line of row r, as number `next`.
 pub fn check_method(
     rows: &[u32],
     tables: &mut [u16],
     methods: &mut [u16],
     effects: &mut [u64],
     r: usize,
-    k: usize,
-    first: usize,
+    owner: Owner,
     next: usize,
-    count: usize,
 ) -> Result<(), Refusal>
-    requires { MethodReady rows.now tables.old methods.old effects.old r k first next count }
-    ensures { (w : MethodReady rows.now tables.old methods.old
-        effects.old r k first next count)
+    requires { MethodReady rows.now tables.old methods.old effects.old r owner.class owner.first
+        next owner.classes }
+    ensures { (w : MethodReady rows.now tables.old methods.old effects.old r owner.class owner.first
+        next owner.classes)
         → (result ≡ result_of (λ u. u) (check_heading w.line.program.classes w.line.super w.line.before
         (r + 1) w.line.method))
         × (result ≡ Ok tt
-        → Working w.line.program.classes k tables.new w.line.fields w.line.rows
+        → Working w.line.program.classes owner.class tables.new w.line.fields w.line.rows
         (with_number w.line.method.name next (own_or w.line.own
         (method_number w.line.program.classes w.line.super)))
         × Numbered w.line.program.classes methods.new effects.new (next + 1)) }
 {
     let np = layout::count_rows(rows, r + 1, PARAMETER);
     let nx = layout::count_rows(rows, r + 1 + np, EFFECT);
-    check_method_line(rows, tables, methods, effects, r, np, nx, k, first, count)?;
-    check_parameters(rows, r + 1, np, count)?;
-    check_effects(rows, tables, r + 1 + np, nx, count)?;
+    let heading = Heading {
+        row: r,
+        parameters: np,
+        effects: nx,
+    };
+    check_method_line(rows, tables, methods, effects, heading, owner)?;
+    check_parameters(rows, r + 1, np, owner.classes)?;
+    check_effects(rows, tables, r + 1 + np, nx, owner.classes)?;
     let name = second(rows, r) as usize;
-    tables[k * CLASS_WIDTH + METHODS_FROM + name] = (next + 1) as u16;
-    enter_method(rows, methods, effects, r, np, nx, k, next);
+    tables[owner.class * CLASS_WIDTH + METHODS_FROM + name] = (next + 1) as u16;
+    enter_method(rows, methods, effects, heading, owner.class, next);
     Ok(())
 }
 
-// Checks and enters the methods of class k, and answers how many there are: the first of them, if there is one, is at
-// row r and has number `first`.
+// Checks and enters the methods of a class, and answers how many there are: the first of them, if there is one, is at
+// row r.
 pub fn check_methods(
     rows: &[u32],
     ends: &[u16],
@@ -250,27 +267,26 @@ pub fn check_methods(
     methods: &mut [u16],
     effects: &mut [u64],
     r: usize,
-    k: usize,
-    first: usize,
-    count: usize,
+    owner: Owner,
 ) -> Result<u32, Refusal>
-    requires { MethodsReady rows.now ends.now tables.old methods.old effects.old r k first count }
-    ensures { (w : MethodsReady rows.now ends.now tables.old
-        methods.old effects.old r k first count)
+    requires { MethodsReady rows.now ends.now tables.old methods.old effects.old r owner.class
+        owner.first owner.classes }
+    ensures { (w : MethodsReady rows.now ends.now tables.old methods.old effects.old r owner.class
+        owner.first owner.classes)
         → (result ≡ headed (length w.one.methods) (check_methods of_check w.program.classes w.super []
         (r + 1) w.one.methods))
         × ((n : ℕ) → result ≡ Ok n
-        → Working w.program.classes k tables.new w.fields w.rows
-        (own_or (own_number first w.one.methods) (method_number w.program.classes w.super))
+        → Working w.program.classes owner.class tables.new w.fields w.rows
+        (own_or (own_number owner.first w.one.methods) (method_number w.program.classes w.super))
         × Numbered w.program.classes methods.new effects.new
-        (first + length w.one.methods)) }
+        (owner.first + length w.one.methods)) }
 {
     let mut at = r;
-    let mut next = first;
+    let mut next = owner.first;
     while letter_at(rows, at) == METHOD {
-        check_method(rows, tables, methods, effects, at, k, first, next, count)?;
+        check_method(rows, tables, methods, effects, at, owner, next)?;
         at = layout::skip_method(rows, ends, at);
         next += 1;
     }
-    Ok((next - first) as u32)
+    Ok((next - owner.first) as u32)
 }

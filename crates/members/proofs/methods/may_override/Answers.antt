@@ -8,7 +8,7 @@ use Rattle.members.proofs.MethodLaws.{override_index, override_result, override_
 use Rattle.members.proofs.MethodLaws.{own_types, over_types}
 use Rattle.members.proofs.MethodLaws.{override_types, override_within}
 use Rattle.members.proofs.methods.may_override.Goals as goal
-use Rattle.members.proofs.methods.may_override.Goals.{then-first, else-first, then-from-np, else-from-np}
+use Rattle.members.proofs.methods.may_override.Goals.{then-first, else-first, then-from-heading, else-from-heading}
 
 pub overflow_mul-n : goal.overflow_mul-n
 overflow_mul-n c = let i = override_index c.requires in omega (arith, i.0)
@@ -38,10 +38,10 @@ pub same_types-requires : goal.same_types-requires
 same_types-requires c =
     let second : c.first-2.result ≡ get_or c.args.rows.now (get_or c.args.methods.now (c.args.n * 4) 0 * 4 + 1) 0 =
     rw c.from-over.ensures at c.first-2.ensures in
-    let same : (c.first.result ≡ c.first-2.result) × (get_or c.args.methods.now (c.args.n * 4 + 2) 0 ≡ c.args.np) =
+    let same : (c.first.result ≡ c.first-2.result) × (get_or c.args.methods.now (c.args.n * 4 + 2) 0 ≡ c.args.heading.parameters) =
     elim c.if-first.branch [
-      | then-first a ↦ (a.if-first.true, sym a.from.ensures ∙ eqb-true _ _ (sym a.value-is ∙ c.if-from-np.true))
-      | else-first a ↦ absurd (a.if-first.false (eqb-true _ _ (sym a.value-is ∙ c.if-from-np.true)))
+      | then-first a ↦ (a.if-first.true, sym a.from.ensures ∙ eqb-true _ _ (sym a.value-is ∙ c.if-from-heading.true))
+      | else-first a ↦ absurd (a.if-first.false (eqb-true _ _ (sym a.value-is ∙ c.if-from-heading.true)))
     ] in
     rw c.from-over.ensures (
       own_types c.requires _ _ c.first.ensures second same.0 same.1,
@@ -59,19 +59,19 @@ returns-then-same_types c = λ w.
     let second : c.first-2.result ≡ get_or c.args.rows.now (get_or c.args.methods.now (c.args.n * 4) 0 * 4 + 1) 0 =
     rw c.from-over.ensures at c.first-2.ensures in
     let tested : (c.if-first.value ≡ true) × (b : Bool) × (b ≡ true)
-    × ((v : ParameterLines c.args.rows.now (c.args.r + 1) c.args.np)
-    → (u : ParameterLines c.args.rows.now (get_or c.args.methods.now (c.args.n * 4) 0 + 1) c.args.np)
+    × ((v : ParameterLines c.args.rows.now (c.args.heading.row + 1) c.args.heading.parameters)
+    → (u : ParameterLines c.args.rows.now (get_or c.args.methods.now (c.args.n * 4) 0 + 1) c.args.heading.parameters)
     → b ≡ same_types v.types u.types) =
-    elim c.if-from-np.branch [
-      | then-from-np b ↦ (
-        b.if-from-np.true,
+    elim c.if-from-heading.branch [
+      | then-from-heading b ↦ (
+        b.if-from-heading.true,
         b.same_types.result,
         sym b.value-is ∙ c.if-same_types.true,
         rw c.from-over.ensures at b.same_types.ensures,
       )
-      | else-from-np b ↦ absurd (false≢true (sym b.if-from-np.false ∙ (sym b.value-is ∙ c.if-same_types.true)))
+      | else-from-heading b ↦ absurd (false≢true (sym b.if-from-heading.false ∙ (sym b.value-is ∙ c.if-same_types.true)))
     ] in
-    let same : (c.first.result ≡ c.first-2.result) × (get_or c.args.methods.now (c.args.n * 4 + 2) 0 ≡ c.args.np) =
+    let same : (c.first.result ≡ c.first-2.result) × (get_or c.args.methods.now (c.args.n * 4 + 2) 0 ≡ c.args.heading.parameters) =
     elim c.if-first.branch [
       | then-first a ↦ (a.if-first.true, sym a.from.ensures ∙ eqb-true _ _ (sym a.value-is ∙ tested.0))
       | else-first a ↦ absurd (a.if-first.false (eqb-true _ _ (sym a.value-is ∙ tested.0)))
@@ -83,14 +83,14 @@ returns-else-same_types c = λ w.
     let second : c.first-2.result ≡ get_or c.args.rows.now (get_or c.args.methods.now (c.args.n * 4) 0 * 4 + 1) 0 =
     rw c.from-over.ensures at c.first-2.ensures in
     c.if-same_types.false ∙ elim c.if-first.branch [
-      | then-first a ↦ elim c.if-from-np.branch [
-        | then-from-np b ↦
+      | then-first a ↦ elim c.if-from-heading.branch [
+        | then-from-heading b ↦
             override_types w _ _ c.first.ensures second a.if-first.true
-            (sym a.from.ensures ∙ eqb-true _ _ (sym a.value-is ∙ b.if-from-np.true)) b.same_types.result
+            (sym a.from.ensures ∙ eqb-true _ _ (sym a.value-is ∙ b.if-from-heading.true)) b.same_types.result
             (rw c.from-over.ensures at b.same_types.ensures) (sym b.value-is ∙ c.if-same_types.false)
-        | else-from-np b ↦
+        | else-from-heading b ↦
             override_count w _ _ c.first.ensures second a.if-first.true
-            (λ q. eqb-false _ _ (sym a.value-is ∙ b.if-from-np.false) (a.from.ensures ∙ q))
+            (λ q. eqb-false _ _ (sym a.value-is ∙ b.if-from-heading.false) (a.from.ensures ∙ q))
       ]
       | else-first a ↦ override_result w _ _ c.first.ensures second a.if-first.false
     ]
