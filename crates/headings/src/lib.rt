@@ -21,7 +21,7 @@ use language::{
     SUPER_PLACE, first, letter_at, second,
 };
 use members::fields::check_fields;
-use members::methods::check_methods;
+use members::methods::{Owner, check_methods};
 use members::{PLAIN_KIND, ROOT_KIND, STATE_KIND};
 
 // The row after a class.
@@ -82,32 +82,30 @@ fn start_block(tables: &mut [u16], k: usize, over: usize, kind: u32)
     }
 }
 
-// Checks class k, fills its block and enters its methods, the first of which has number `first`; answers how many they
-// are.
+// Checks the class of the C line of row r, fills its block and enters its methods; answers how many they are.
 fn check_class(
     rows: &[u32],
     ends: &[u16],
     tables: &mut [u16],
     methods: &mut [u16],
     effects: &mut [u64],
-    k: usize,
     r: usize,
-    first: usize,
-    count: usize,
+    owner: Owner,
 ) -> Result<u32, Refusal>
-    requires { ClassReady rows.now ends.now tables.old methods.old effects.old k r first count }
-    ensures { (w : ClassReady rows.now ends.now tables.old
-        methods.old effects.old k r first count)
-        → (result ≡ headed (length w.one.methods) (check_class of_check w.program.classes k (r + 1)
-        w.one))
-        × ((n : ℕ) → result ≡ Ok n → Lookups w.program.classes (k + 1) tables.new
+    requires { ClassReady rows.now ends.now tables.old methods.old effects.old owner.class r
+        owner.first owner.classes }
+    ensures { (w : ClassReady rows.now ends.now tables.old methods.old effects.old owner.class r
+        owner.first owner.classes)
+        → (result ≡ headed (length w.one.methods) (check_class of_check w.program.classes owner.class
+        (r + 1) w.one))
+        × ((n : ℕ) → result ≡ Ok n → Lookups w.program.classes (owner.class + 1) tables.new
         × Numbered w.program.classes methods.new effects.new
-        (first + length w.one.methods)) }
+        (owner.first + length w.one.methods)) }
 {
-    let kind = language::first(rows, r);
+    let kind = first(rows, r);
     let over = second(rows, r) as usize;
     let line = r as u32 + 1;
-    if k <= over {
+    if owner.class <= over {
         return Err(Refusal {
             number: NAME_REFUSAL,
             line,
@@ -119,20 +117,17 @@ fn check_class(
             line,
         });
     }
-    start_block(tables, k, over, kind);
+    start_block(tables, owner.class, over, kind);
     let n = layout::count_rows(rows, r + 1, FIELD);
-    check_fields(rows, tables, r + 1, n, k * CLASS_WIDTH, count)?;
-    check_methods(
+    check_fields(
         rows,
-        ends,
         tables,
-        methods,
-        effects,
-        r + 1 + n,
-        k,
-        first,
-        count,
-    )
+        r + 1,
+        n,
+        owner.class * CLASS_WIDTH,
+        owner.classes,
+    )?;
+    check_methods(rows, ends, tables, methods, effects, r + 1 + n, owner)
 }
 
 // Checks all classes in order and fills the tables; answers how many methods there are.
@@ -156,7 +151,12 @@ fn check_classes(
     let mut r = 0;
     let mut next = 0;
     for k in 1..=count {
-        let many = check_class(rows, ends, tables, methods, effects, k, r, next, count)?;
+        let owner = Owner {
+            class: k,
+            first: next,
+            classes: count,
+        };
+        let many = check_class(rows, ends, tables, methods, effects, r, owner)?;
         let over = second(rows, r) as usize;
         above[k] = classes::effect_of(k as u32) | above[over];
         r = skip_class(rows, ends, r);
