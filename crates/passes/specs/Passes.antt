@@ -25,12 +25,12 @@ short_numbers = 128
 abbrev pub few_numbers : ℕ
 few_numbers = 4096
 
+abbrev pub few_classes : ℕ
+few_classes = 7
+
 -- No size needs more slots than 256 for each of 128 levels of nesting, and as many again.
 abbrev pub most_slots : ℕ
 most_slots = 33024
-
-abbrev pub few_classes : ℕ
-few_classes = 7
 
 -- Whole rows, and tables that are long enough for them: an end for each row that may be accepted, an entry
 -- for each method.
