@@ -62,16 +62,17 @@ module _ (T : List ℕ) (ψ c k m n stored : ℕ) (e : k ≡ applied T ψ c) (n_
   pub place_none : stored ≡ 0 → method_place T (applied T ψ c) m ≡ 0
   place_none z = rw (← e, ← n_is) (sym f ∙ z)
 
-  pub place_some : (stored ≡ 0 → ⊥) → method_place T (applied T ψ c) m ≡ suc (stored - 1)
-  place_some z = let q : stored ≡ suc (stored - 1) = omega arith in rw (← e, ← n_is) (sym f ∙ q)
+  pub place_some : {i : ℕ} → stored ≡ suc i → method_place T (applied T ψ c) m ≡ suc i
+  place_some q = rw (← e, ← n_is) (sym f ∙ q)
 
 pub called_method : {R T A M F S : List ℕ} {at : ℕ} {scope : Scope} {t : Typing} {ψ : ℕ}
     → PreInvoke R T A M F S at scope t ψ → {c k n stored : ℕ} → t ≡ Class c → k ≡ applied T ψ c
-    → n ≡ get_or R (at * 4 + 1) 0 → stored ≡ get_or T (k * 576 + (256 + n)) 0 → (stored ≡ 0 → ⊥)
-    → PreMethod R A M F S scope.top (get_or R (at * 4 + 2) 0) (stored - 1)
-called_method p q e n_is f z = p.method _ _ q (place_some _ _ _ _ _ _ _ e n_is f z)
+    → n ≡ get_or R (at * 4 + 1) 0 → stored ≡ get_or T (k * 576 + (256 + n)) 0 → (i : ℕ) → stored ≡ suc i
+    → PreMethod R A M F S scope.top (get_or R (at * 4 + 2) 0) i
+called_method p q e n_is f i z = p.method _ _ q (place_some _ _ _ _ _ _ _ e n_is f z)
 
-pub done_out : (R : List ℕ) (row φ ψ ε m : ℕ) (t : Typing) → m ≡ get_or R (row * 4 + 1) 0 → t ≡ case_of_number m
+pub done_out : (R : List ℕ) (row place φ ψ ε m : ℕ) (t : Typing) → place ≡ row → m ≡ get_or R (place * 4 + 1) 0
+    → t ≡ case_of_number m
     → answer t (bit_or (bit_or φ ψ) ε) ≡ answer (case_of_number (get_or R (row * 4 + 1) 0)) (join (join φ ψ) ε)
 unfolding join
-done_out R row φ ψ ε m t e f = ap (λ (x : Typing). answer x (bit_or (bit_or φ ψ) ε)) (f ∙ ap case_of_number e)
+done_out R row place φ ψ ε m t z e f = ap (λ (x : Typing). answer x (bit_or (bit_or φ ψ) ε)) (f ∙ ap case_of_number (e ∙ ap (λ (x : ℕ). get_or R (x * 4 + 1) 0) z))

@@ -1,4 +1,4 @@
--- Laws of fields sought, and of what G and U answer and note, case by case. Assumes nothing.
+-- Laws of fields sought, and of what is no class. Assumes nothing.
 use mathlib.Core.Path.{◌≡◌, refl, sym, ap}
 use mathlib.Core.List.{List, [], ◌∷◌}
 use Prim.Native.Nat.{ℕ, zero, suc, ◌+◌, ◌*◌, ◌≤◌}
@@ -22,8 +22,7 @@ replaced_past [] i n h = refl
 replaced_past (x ∷ l) zero n h = absurd (omega arith)
 replaced_past (x ∷ l) (suc i) n h = ap (λ (k : List ℕ). x ∷ k) (replaced_past l i n (omega arith))
 
--- a field's type
--- G
+-- a field sought after an effect
 pub found_after : (R T : List ℕ) (at φ c k f : ℕ) → k ≡ applied T φ c → f ≡ get_or R (at * 4 + 1) 0
     → (s : Sought)
     → s ≡ field_in R T k f → field_in R T (applied T φ c) (get_or R (at * 4 + 1) 0) ≡ s

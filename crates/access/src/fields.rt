@@ -4,7 +4,7 @@ ghost use Rattle.access.specs.Fields.{field_in, PreField, got, got_classes, PreG
 ghost use Rattle.access.specs.Fields.{put, put_classes};
 
 use language::{MEMBER_REFUSAL, ROWS_BEFORE, Refusal, TYPE_REFUSAL, Type, class_entry, first};
-use types::{Typed, Typing, apply, is_fitting, refused, typing_of};
+use types::{Program, Typed, Typing, apply, is_fitting, refused, typing_of};
 
 // The type of the field of a name in a class, where it has one.
 #[tactic(auto, unfolding(crate::specs::Fields::field_in))]
@@ -33,21 +33,25 @@ pub fn note(class_at: &mut [u16], at: usize, class: u32)
 // G: 9 where there is no class, 8 where there is no field.
 #[tactic(auto, unfolding(crate::specs::Fields::got, crate::specs::Fields::got_classes, crate::specs::Fields::found_answer, crate::specs::Fields::noted))]
 pub fn get(
-    rows: &[u32],
-    table: &[u16],
+    program: &Program,
     class_at: &mut [u16],
     at: usize,
     child: Typed,
 ) -> Result<Typed, Refusal>
-    requires { PreGet rows.now table.now at child.typing }
-    ensures { (result ≡ got rows.now table.now at child.typing child.effect) ×
+    requires { PreGet program.now.rows.now program.now.table.now at child.typing }
+    ensures { (result ≡ got program.now.rows.now program.now.table.now at child.typing child.effect) ×
         (class_at.new
-        ≡ got_classes rows.now table.now class_at.old at child.typing) }
+        ≡ got_classes program.now.rows.now program.now.table.now class_at.old at child.typing) }
 {
     let Typing::Class(class) = child.typing else {
         return Err(refused(TYPE_REFUSAL, at));
     };
-    let Some(u) = field_type(rows, table, class, first(rows, at) as usize) else {
+    let Some(u) = field_type(
+        program.rows,
+        program.table,
+        class,
+        first(program.rows, at) as usize,
+    ) else {
         return Err(refused(MEMBER_REFUSAL, at));
     };
     note(class_at, at, class);
@@ -60,29 +64,32 @@ pub fn get(
 // U: 9, 8, 9. The value's effect is applied to the object's type before the field is sought.
 #[tactic(auto, unfolding(crate::specs::Fields::put, crate::specs::Fields::put_classes, crate::specs::Fields::put_answer, crate::specs::Fields::put_noted, language::specs::Effects::join))]
 pub fn set(
-    rows: &[u32],
-    table: &[u16],
-    above: &[u64],
+    program: &Program,
     class_at: &mut [u16],
     at: usize,
     object: Typed,
     value: Typed,
 ) -> Result<Typed, Refusal>
-    requires { PrePut rows.now table.now above.now at object.typing value }
-    ensures { (result ≡ put rows.now table.now
-        above.now at object.typing object value)
+    requires { PrePut program.now.rows.now program.now.table.now program.now.above.now at object.typing value }
+    ensures { (result ≡ put program.now.rows.now program.now.table.now
+        program.now.above.now at object.typing object value)
         × (class_at.new
-        ≡ put_classes rows.now table.now above.now
+        ≡ put_classes program.now.rows.now program.now.table.now program.now.above.now
         class_at.old at object.typing value) }
 {
     let Typing::Class(c) = object.typing else {
         return Err(refused(TYPE_REFUSAL, at));
     };
-    let class = apply(table, value.effect, c);
-    let Some(u) = field_type(rows, table, class, first(rows, at) as usize) else {
+    let class = apply(program.table, value.effect, c);
+    let Some(u) = field_type(
+        program.rows,
+        program.table,
+        class,
+        first(program.rows, at) as usize,
+    ) else {
         return Err(refused(MEMBER_REFUSAL, at));
     };
-    if !is_fitting(above, value.typing, u) {
+    if !is_fitting(program.above, value.typing, u) {
         return Err(refused(TYPE_REFUSAL, at));
     }
     note(class_at, at, class);

@@ -4,11 +4,11 @@ ghost use Rattle.access.specs.Calls.{no_method_for, all_fitting, PreFitting, Pre
 
 use super::fields::note;
 use language::{
-    MEMBER_REFUSAL, METHOD_WIDTH, METHODS_FROM, PARAMETERS_PLACE, Refusal, TYPE_REFUSAL, Type,
-    class_entry, first, second,
+    MEMBER_REFUSAL, METHODS_FROM, PARAMETERS_PLACE, Refusal, TYPE_REFUSAL, Type, class_entry,
+    first, second,
 };
 use types::slots::{Scope, apply_all};
-use types::{Typed, Typing, apply, is_fitting, refused, typing_at, typing_of};
+use types::{Program, Typed, Typing, apply, is_fitting, refused, typing_at, typing_of};
 
 // Q with more arguments than any method has parameters: 9 where the receiver is no class, else 8.
 #[tactic(auto, unfolding(crate::specs::Calls::no_method_for))]
@@ -48,11 +48,7 @@ pub fn are_fitting(
 
 // Q, after its children: 9, 8 for the method, 8 for the count, 9. The method's effect comes last, and on all slots.
 pub fn invoke(
-    rows: &[u32],
-    table: &[u16],
-    above: &[u64],
-    methods: &[u16],
-    effects: &[u64],
+    program: &Program,
     slots: &mut [u32],
     class_at: &mut [u16],
     at: usize,
@@ -60,36 +56,34 @@ pub fn invoke(
     receiver: Typed,
     effect: u64,
 ) -> Result<Typed, Refusal>
-    requires { PreInvoke rows.now table.now above.now methods.now effects.now slots.old at
+    requires { PreInvoke program.now.rows.now program.now.table.now program.now.above.now program.now.methods.now program.now.effects.now slots.old at
         scope receiver.typing effect }
-    ensures { Invoked rows.now table.now above.now
-        methods.now effects.now slots.old class_at.old at scope
+    ensures { Invoked program.now.rows.now program.now.table.now program.now.above.now
+        program.now.methods.now program.now.effects.now slots.old class_at.old at scope
         receiver.typing receiver.effect effect slots.new class_at.new result }
 {
     let Typing::Class(c) = receiver.typing else {
         return Err(refused(TYPE_REFUSAL, at));
     };
-    let class = apply(table, effect, c);
-    let name = first(rows, at) as usize;
-    let n = second(rows, at) as usize;
-    let stored = class_entry(table, class, METHODS_FROM + name) as usize;
-    if stored == 0 {
+    let class = apply(program.table, effect, c);
+    let name = first(program.rows, at) as usize;
+    let n = second(program.rows, at) as usize;
+    let stored = class_entry(program.table, class, METHODS_FROM + name) as usize;
+    let Some(number) = stored.checked_sub(1) else {
+        return Err(refused(MEMBER_REFUSAL, at));
+    };
+    if program.method_entry(number, PARAMETERS_PLACE) != n {
         return Err(refused(MEMBER_REFUSAL, at));
     }
-    let number = stored - 1;
-    let parameters = methods[number * METHOD_WIDTH + PARAMETERS_PLACE] as usize;
-    if parameters != n {
-        return Err(refused(MEMBER_REFUSAL, at));
-    }
-    let row = methods[number * METHOD_WIDTH] as usize;
-    if !are_fitting(rows, above, slots, scope.top, row + 1, n) {
+    let row = program.method_row(number);
+    if !are_fitting(program.rows, program.above, slots, scope.top, row + 1, n) {
         return Err(refused(TYPE_REFUSAL, at));
     }
-    let own = effects[number];
-    apply_all(table, slots, scope.size, own);
+    let own = program.effects[number];
+    apply_all(program.table, slots, scope.size, own);
     note(class_at, at, class);
     Ok(Typed {
-        typing: typing_of(Type::from_number(first(rows, row))),
+        typing: typing_of(Type::from_number(first(program.rows, row))),
         effect: receiver.effect | effect | own,
     })
 }

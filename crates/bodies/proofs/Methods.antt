@@ -20,6 +20,7 @@ use Rattle.language.specs.WellFormed.{NodeInForm}
 use Rattle.language.proofs.Classes.{class_count}
 use Rattle.layout.specs.Found.{MethodHere, method_here}
 use Rattle.layout.specs.Headed.{MethodHeaded, method_headed, declared_nth}
+use Rattle.layout.specs.HeldLaws.{few}
 use Rattle.layout.specs.NodeForms.{of_width}
 use Rattle.types.specs.declared.Typing.{Typing}
 use Rattle.std.specs.Prelude.{Ok, Err}
@@ -82,6 +83,9 @@ module _ {R E T A M F S : List ℕ} {count width number : ℕ}
 
     owner-is : get_or M (number * 4 + 1) 0 ≡ m.owner
     owner-is = w.headed.methods.owners number m w.there
+
+    pub owner_small : get_or M (number * 4 + 1) 0 ≤ 64
+    owner_small = omega (arith, owner-is, owner-low, w.headed.counted, few w.headed)
 
     parameters-are : get_or M (number * 4 + 2) 0 ≡ length m.declaration.parameters
     parameters-are = w.headed.methods.parameters number m w.there
@@ -199,17 +203,35 @@ pub record BodyTyped (R E T A M F S C S₂ C₂ : List ℕ) (count width number 
       × (((i : ℕ) → i < body_at w.m → get_or C₂ i 0 ≡ get_or C i 0)
       × ((i : ℕ) → body_at w.m + size (body_of w.m) ≤ i → get_or C₂ i 0 ≡ get_or C i 0))
 
-pub body_typed : {R E T A M F S C S₁ S₂ C₂ : List ℕ} {count width number : ℕ} {r : Answer}
-    → PostEnter R S S₁ (get_or M (number * 4 + 1) 0) (get_or M (number * 4) 0 + 1) (get_or M (number * 4 + 2) 0)
-    → Post R E T A M F S₁ C S₂ C₂ (get_or M (number * 4 + 3) 0)
-    (method_scope count (get_or M (number * 4 + 1) 0) (get_or M (number * 4 + 2) 0) width) r
-    → BodyTyped R E T A M F S C S₂ C₂ count width number r
-body_typed {M = M} {number = number} en q = record {
-  scope = get_or M (number * 4 + 2) 0 + 1;
-  slots_long = q.kept.slots_long ∙ en.long;
-  classes_long = q.kept.classes_long;
-  is = λ w. (typed-is w en q, typed-kept w en q);
-}
+-- What the code reads of a method: the row of its M line, its class, its number of parameters, and the row of its body.
+pub record MethodRead (M : List ℕ) (number at owner n body : ℕ) : Type 0 where
+  pub row : at ≡ get_or M (number * 4) 0
+  pub class : owner ≡ get_or M (number * 4 + 1) 0
+  pub count : n ≡ get_or M (number * 4 + 2) 0
+  pub start : body ≡ get_or M (number * 4 + 3) 0
+
+module _ {R E T A M F S : List ℕ} {count width number at owner n body : ℕ} (e : MethodRead M number at owner n body)
+  where
+    pub read_ready : PreMethodBody R E T A M F S count width number → PreEnter R S (at + 1) n
+    read_ready w = rw (e.row, e.count) (enter_ready w)
+
+    pub read_pre : {S₁ : List ℕ} → PreMethodBody R E T A M F S count width number → PostEnter R S S₁ owner (at + 1) n
+        → Pre R E T A M F S₁ body (method_scope count owner n width)
+    read_pre w p = rw (e.start, e.class, e.count)
+        (body_pre w (rw (e.row, e.class, e.count) at p))
+
+    pub body_typed : {C S₁ S₂ C₂ : List ℕ} {r : Answer} → PostEnter R S S₁ owner (at + 1) n
+        → Post R E T A M F S₁ C S₂ C₂ body (method_scope count owner n width) r
+        → BodyTyped R E T A M F S C S₂ C₂ count width number r
+    body_typed p q =
+        let p' = rw (e.row, e.class, e.count) at p in
+        let q' = rw (e.start, e.class, e.count) at q in
+        record {
+          scope = get_or M (number * 4 + 2) 0 + 1;
+          slots_long = q.kept.slots_long ∙ p.long;
+          classes_long = q.kept.classes_long;
+          is = λ w. (typed-is w p' q', typed-kept w p' q');
+        }
 
 -- the definition, by cases
 module _ (W : World) (number : ℕ) (m : PlacedMethod) where

@@ -15,6 +15,7 @@ use Rattle.language.specs.LookupClasses.{LooksUp}
 use Rattle.language.specs.MethodTables.{PlacedMethod, placed_methods}
 use Rattle.language.specs.Layout.{body_row, start_row, LooksUpProgram}
 use Rattle.layout.specs.Held.{Headed}
+use Rattle.types.specs.declared.Program.{Program as CodeProgram}
 use Rattle.types.specs.Answers.{fresh_in}
 
 -- What the pass answers: that all is accepted, or a refusal.
@@ -79,6 +80,16 @@ pub record PostMethodBody (R E T A M F S C S' C' : List ℕ) (count width number
     pub classes_long : length C' ≡ length C
     pub is : (w : PreMethodBody R E T A M F S count width number)
         → MethodIs (world w.p.classes) number w.m C C' r
+
+-- The same of the rows and tables that the function is given.
+abbrev pub PreMethodHere : CodeProgram → List ℕ → ℕ → ℕ → ℕ → Type 0
+PreMethodHere t S count width number =
+    PreMethodBody t.rows.now t.ends.now t.table.now t.above.now t.methods.now t.effects.now S count width number
+
+abbrev pub PostMethodHere : CodeProgram → List ℕ → List ℕ → List ℕ → List ℕ → ℕ → ℕ → ℕ → Verdict → Type 0
+PostMethodHere t S C S' C' count width number r =
+    PostMethodBody t.rows.now t.ends.now t.table.now t.above.now t.methods.now t.effects.now S C S' C' count
+    width number r
 
 -- A program whose form and headings pass, with its tables; its number of methods, the row of its S line, and a width for
 -- its bodies.

@@ -1,7 +1,7 @@
 // The pass over bodies: each method's body and the start block are typed, in line order.
 #![tactic(auto)]
 
-ghost use Rattle.bodies.specs.Whole.{PreEnter, PostEnter, PreMethodBody, PostMethodBody, BodiesReady};
+ghost use Rattle.bodies.specs.Whole.{PreEnter, PostEnter, PreMethodHere, PostMethodHere, BodiesReady};
 ghost use Rattle.bodies.specs.Whole.{BodiesDone};
 
 use expressions::expression;
@@ -10,7 +10,7 @@ use language::{
     TYPE_REFUSAL, Type, first,
 };
 use types::slots::{HALF, Scope, fresh};
-use types::{is_fitting, is_within, refused};
+use types::{Program, is_fitting, is_within, refused};
 
 // `this` where there is none.
 const NO_THIS: u32 = NO_TYPE * HALF + NO_TYPE;
@@ -28,29 +28,21 @@ fn enter(rows: &[u32], slots: &mut [u32], owner: u32, from: usize, n: usize)
 
 // The method of a number: its body, then on its M line the body's type, 9, and effect, 10.
 fn method(
-    rows: &[u32],
-    ends: &[u16],
-    table: &[u16],
-    above: &[u64],
-    methods: &[u16],
-    effects: &[u64],
+    program: &Program,
     slots: &mut [u32],
     class_at: &mut [u16],
     count: u32,
     width: usize,
     number: usize,
 ) -> Result<(), Refusal>
-    requires { PreMethodBody rows.now ends.now table.now above.now methods.now effects.now
-        slots.old count width number }
-    ensures { PostMethodBody rows.now ends.now table.now
-        above.now methods.now effects.now slots.old
-        class_at.old slots.new class_at.new count width number result }
+    requires { PreMethodHere program.now slots.old count width number }
+    ensures { PostMethodHere program.now slots.old class_at.old slots.new class_at.new count width number result }
 {
-    let at = methods[number * METHOD_WIDTH] as usize;
-    let owner = methods[number * METHOD_WIDTH + OWNER_PLACE] as u32;
-    let n = methods[number * METHOD_WIDTH + PARAMETERS_PLACE] as usize;
-    let body = methods[number * METHOD_WIDTH + BODY_PLACE] as usize;
-    enter(rows, slots, owner, at + 1, n);
+    let at = program.method_row(number);
+    let owner = program.method_entry(number, OWNER_PLACE) as u32;
+    let n = program.method_entry(number, PARAMETERS_PLACE);
+    let body = program.method_entry(number, BODY_PLACE);
+    enter(program.rows, slots, owner, at + 1, n);
     let scope = Scope {
         count,
         class: owner,
@@ -58,13 +50,15 @@ fn method(
         width,
         top: width,
     };
-    let r = expression(
-        rows, ends, table, above, methods, effects, slots, class_at, body, scope,
-    )?;
-    if !is_fitting(above, r.typing, Type::from_number(first(rows, at))) {
+    let r = expression(program, slots, class_at, body, scope)?;
+    if !is_fitting(
+        program.above,
+        r.typing,
+        Type::from_number(first(program.rows, at)),
+    ) {
         return Err(refused(TYPE_REFUSAL, at));
     }
-    if !is_within(r.effect, effects[number]) {
+    if !is_within(r.effect, program.effects[number]) {
         return Err(refused(EFFECT_REFUSAL, at));
     }
     Ok(())
@@ -93,10 +87,16 @@ pub fn check_bodies(
         above.now methods.now effects.now slots.old
         class_at.old class_at.new count many start width result }
 {
+    let program = Program {
+        rows,
+        ends,
+        table,
+        above,
+        methods,
+        effects,
+    };
     for i in 0..many {
-        method(
-            rows, ends, table, above, methods, effects, slots, class_at, count, width, i,
-        )?;
+        method(&program, slots, class_at, count, width, i)?;
     }
     slots[0] = NO_THIS;
     let scope = Scope {
@@ -106,17 +106,6 @@ pub fn check_bodies(
         width,
         top: width,
     };
-    expression(
-        rows,
-        ends,
-        table,
-        above,
-        methods,
-        effects,
-        slots,
-        class_at,
-        start + 1,
-        scope,
-    )?;
+    expression(&program, slots, class_at, start + 1, scope)?;
     Ok(())
 }

@@ -1,25 +1,23 @@
 -- The function block: B's V lines, then its expressions. Assumes nothing.
-use mathlib.Core.Path.{◌≡◌, ap, subst, ◌∙◌}
+use mathlib.Core.Path.{◌≡◌, refl, subst, ◌∙◌}
 use mathlib.Core.List.{List, map}
 use Prim.Native.Nat.{ℕ, ◌+◌, ◌-◌, ◌*◌, ◌≤◌}
 use native.Mathlib.Omega.{arith}
 use lib.ListN.{length, get_or}
 use Rattle.language.specs.Rows.{B_block, V_local}
-use Rattle.language.specs.Results.{bind_checked, passed}
+use Rattle.language.specs.Results.{passed}
 use Rattle.language.specs.Frames.{opened}
 use Rattle.language.specs.Tree.{DeclaredType, null_type, Program, block, Exprs, sizes, count as how_many}
-use Rattle.language.specs.Effects.{join}
 use Rattle.language.specs.Program.{world}
 use Rattle.language.specs.Environment.{Environment, fresh_slot}
 use Rattle.language.specs.WellFormed.{Each, TypeInForm}
-use Rattle.language.specs.Typing.{typed, last_type, locals_declared, type_all}
+use Rattle.language.specs.Typing.{locals_declared}
 use Rattle.language.specs.Encoded.{NodeAt, TypesAt, Encoded}
-use Rattle.types.specs.declared.Typed.{Typed as TypedCase}
 use Rattle.types.specs.declared.slots.Scope.{Scope}
 use Rattle.types.specs.declared.Typing.TheVariants.{Null}
 use Rattle.std.specs.Prelude.{Result, Ok, Err}
 use Rattle.language.specs.declared.Refusal.{Refusal}
-use Rattle.types.specs.Answers.{Answer, answer_of, typed_case}
+use Rattle.types.specs.Answers.{Answer, typed_case}
 use Rattle.typing.specs.Nodes.{PreOpen, PostOpen}
 use Rattle.expressions.specs.Cycle.{Given, GivenAll, Views, Kept, Pre, Post, Is, PreList, PostItems}
 use Rattle.expressions.specs.Cycle.{grown}
@@ -113,8 +111,8 @@ module _ {R E T A M F S : List ℕ} {at : ℕ} {scope : Scope} (pre : Pre R E T 
           (λ _. PreList R E T A M F S₁ (at + 1 + locals) (grown scope locals) nodes) λ ts es g.
           items_of g
 
-      module _ {S₂ C C₂ : List ℕ} {last : TypedCase} {r : Answer} (last-is : last ≡ typed_case Null 0)
-          (q : PostItems R E T A M F S₁ C S₂ C₂ (at + 1 + locals) (grown scope locals) nodes last r) where
+      module _ {S₂ C C₂ : List ℕ} {r : Answer}
+          (q : PostItems R E T A M F S₁ C S₂ C₂ (at + 1 + locals) (grown scope locals) nodes (typed_case Null 0) r) where
         kept_block : Kept S S₂ C C₂ at (get_or E at 0) scope.width scope.top
         kept_block = by_node B_block pre.e pre.given l
             (λ _. Kept S S₂ C C₂ at (get_or E at 0) scope.width scope.top)
@@ -132,10 +130,7 @@ module _ {R E T A M F S : List ℕ} {at : ℕ} {scope : Scope} (pre : Pre R E T 
         block_done = post_of kept_block λ p z γ d g.
             by_node B_block z g l (λ w. Is (world p.classes) w γ at scope.size S₂ C₂ r) λ ts es g.
             let b = opened-block g in
-            let w = q.is (items_of g) null_type (ap (λ (y : TypedCase). y.typing) last-is) in
+            let w = q.is (items_of g) null_type refl in
             block_is g.headed ts es at scope.size locals γ S S₂ C₂ r (block_row g).row
             (block_locals g) locals-is g.views (room_slots g.room) b.0
-            (w.out ∙ ap (λ (φ : ℕ). answer_of (bind_checked
-            (type_all (world p.classes) es (at + 1 + locals + 1) (opened γ (map fresh_slot ts))) λ b.
-            typed (last_type null_type b.types) b.slots (join φ b.effect)))
-            (ap (λ (y : TypedCase). y.effect) last-is)) w.accepted
+            w.out w.accepted

@@ -150,13 +150,12 @@ module _ {R E T A M F S : List ℕ} {at : ℕ} {scope : Scope} (pre : Pre R E T 
       )
 
       -- more than 8 arguments
-      module _ {S₂ C₂ : List ℕ} {last : TypedCase} {many : Answer} (o : 8 < given-n)
-          (ln : last ≡ typed_case Null 0)
-          (i : PostItems R E T A M F S₁ C₁ S₂ C₂ next scope given-n last many) where
+      module _ {S₂ C₂ : List ℕ} {many : Answer} (o : 8 < given-n)
+          (i : PostItems R E T A M F S₁ C₁ S₂ C₂ next scope given-n (typed_case Null 0) many) where
         many_next : {p : Program} {γ : Environment} {d m : ℕ} {e : Expr} {es : Exprs}
             → Given R E T A M F S at scope p (call m e es) γ d
-            → PostItems R E T A M F S₁ C₁ S₂ C₂ (at + 1 + size e) scope given-n last many
-        many_next g = subst (λ (k : ℕ). PostItems R E T A M F S₁ C₁ S₂ C₂ k scope given-n last many)
+            → PostItems R E T A M F S₁ C₁ S₂ C₂ (at + 1 + size e) scope given-n (typed_case Null 0) many
+        many_next g = subst (λ (k : ℕ). PostItems R E T A M F S₁ C₁ S₂ C₂ k scope given-n (typed_case Null 0) many)
             (row_of (call_1 g)).end i
 
         kept-many : Kept S S₂ C C₂ at (get_or E at 0) scope.width scope.top
@@ -177,18 +176,18 @@ module _ {R E T A M F S : List ℕ} {at : ℕ} {scope : Scope} (pre : Pre R E T 
         call_fail_many {f} h = post_of kept-many λ p z γ d g.
             by_node Q_call z g l (λ w. Is (world p.classes) w γ at scope.size S₂ C₂ (Err f)) λ m e es g.
             let u = did (call_1 g) q ok in
-            let w = (many_next g).is (items_of g) null_type (ap (λ (y : TypedCase). y.typing) ln) in
+            let w = (many_next g).is (items_of g) null_type refl in
             many_refused g.headed m e es at (at + 1 + size e) scope.size (at + 1 + 1) γ u.a
-            S₂ C₂ f null_type last.effect refl u.typed_at (sym h ∙ w.out)
+            S₂ C₂ f null_type 0 refl u.typed_at (sym h ∙ w.out)
 
         pub call_many : {x : TypedCase} {f : Refusal} → many ≡ Ok x → f ≡ no_method_for at a.typing
             → Post R E T A M F S C S₂ C₂ at scope (Err f)
         call_many {x} {f} h e₁ = post_of kept-many λ p z γ d g.
             by_node Q_call z g l (λ w. Is (world p.classes) w γ at scope.size S₂ C₂ (Err f)) λ m e es g.
             let u = did (call_1 g) q ok in
-            let w = (many_next g).is (items_of g) null_type (ap (λ (y : TypedCase). y.typing) ln) in
+            let w = (many_next g).is (items_of g) null_type refl in
             many_is g.headed m e es at (at + 1 + size e) scope.size (at + 1 + 1) γ u.a
-            S₂ C₂ a x f null_type last.effect (call_row g).1 (omega (arith, o, count_of g))
+            S₂ C₂ a x f null_type 0 (call_row g).1 (omega (arith, o, count_of g))
             refl u.typed_at u.accepted.declared u.is (sym h ∙ w.out) e₁
 
       module _ (o : given-n ≤ 8) {S₂ C₂ : List ℕ} {r₂ : Result ℕ Refusal}

@@ -22,8 +22,10 @@ use Rattle.language.specs.Limits.{of_check}
 use Rattle.layout.specs.Held.{Headed}
 use Rattle.layout.specs.NodeForms.{of_width}
 use Rattle.types.specs.declared.Typed.{Typed as TypedCase}
+use Rattle.types.specs.declared.Typing.TheVariants.{Null}
 use Rattle.types.specs.declared.slots.Scope.{Scope}
-use Rattle.types.specs.Answers.{Answer, answer_of, typing_case, case_number, numbers}
+use Rattle.types.specs.declared.Program.{Program as CodeProgram}
+use Rattle.types.specs.Answers.{Answer, answer_of, typed_case, typing_case, case_number, numbers}
 
 -- A row with the letter of a node of one child.
 abbrev pub Unary : List ℕ → ℕ → Type 0
@@ -182,3 +184,24 @@ pub record PostArguments (R E T A M F S C S' C' : List ℕ) (at : ℕ) (scope : 
       → get_or C' i 0 ≡ get_or C i 0
   pub is : (w : PreList R E T A M F S at (raised scope n) n)
       → ArgumentsAre (world w.p.classes) w.es w.γ at scope.size scope.top n S' C' r
+
+-- The same of the rows and tables that the functions are given.
+abbrev pub PreNode : CodeProgram → List ℕ → ℕ → Scope → Type 0
+PreNode t S at scope = Pre t.rows.now t.ends.now t.table.now t.above.now t.methods.now t.effects.now S at scope
+
+abbrev pub PostNode : CodeProgram → List ℕ → List ℕ → List ℕ → List ℕ → ℕ → Scope → Answer → Type 0
+PostNode t S C S' C' at scope r =
+    Post t.rows.now t.ends.now t.table.now t.above.now t.methods.now t.effects.now S C S' C' at scope r
+
+abbrev pub PreNodes : CodeProgram → List ℕ → ℕ → Scope → ℕ → Type 0
+PreNodes t S at scope n =
+    PreList t.rows.now t.ends.now t.table.now t.above.now t.methods.now t.effects.now S at scope n
+
+abbrev pub PostNodes : CodeProgram → List ℕ → List ℕ → List ℕ → List ℕ → ℕ → Scope → ℕ → Answer → Type 0
+PostNodes t S C S' C' at scope n r =
+    PostItems t.rows.now t.ends.now t.table.now t.above.now t.methods.now t.effects.now S C S' C' at scope n
+    (typed_case Null 0) r
+
+abbrev pub PostGiven : CodeProgram → List ℕ → List ℕ → List ℕ → List ℕ → ℕ → Scope → ℕ → Result ℕ Refusal → Type 0
+PostGiven t S C S' C' at scope n r =
+    PostArguments t.rows.now t.ends.now t.table.now t.above.now t.methods.now t.effects.now S C S' C' at scope n r

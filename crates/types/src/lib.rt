@@ -1,14 +1,15 @@
 // Types as typing answers them: what fits what, joins, and effects applied to classes.
 #![tactic(auto)]
 
-ghost use Rattle.std.specs.Prelude.{◌≡◌, suc, ◌+◌, ◌*◌, ◌≤◌, ◌<◌, length};
+ghost use Rattle.std.specs.Prelude.{get_or, ◌≡◌, suc, ◌+◌, ◌*◌, ◌≤◌, ◌<◌, length};
 ghost use Rattle.language.specs.Effects.{within};
+ghost use Rattle.language.specs.MethodTables.{method_width};
 ghost use Rattle.language.specs.Refusals.{refusal};
 ghost use Rattle.types.specs.Answers.{typed_case, case_of_number, case_number, names_type, stored_case};
 ghost use Rattle.types.specs.Tables.{root_in, applied, is_fitting, nearest_from, CaseIn, PreNearest};
 ghost use Rattle.types.specs.Tables.{joined_case, BothClasses};
 
-use language::{NO_TYPE, ROOT_PLACE, Refusal, SUPER_PLACE, Type, class_entry};
+use language::{METHOD_WIDTH, NO_TYPE, ROOT_PLACE, Refusal, SUPER_PLACE, Type, class_entry};
 
 pub mod slots;
 
@@ -25,6 +26,36 @@ pub enum Typing {
 pub struct Typed {
     pub typing: Typing,
     pub effect: u64,
+}
+
+// What the pass over bodies reads of a program: its rows, where each node ends, the tables of classes, of the classes above
+// each class and of methods, and the effect of each method.
+#[derive(Clone, Copy)]
+pub struct Program<'a> {
+    pub rows: &'a [u32],
+    pub ends: &'a [u16],
+    pub table: &'a [u16],
+    pub above: &'a [u64],
+    pub methods: &'a [u16],
+    pub effects: &'a [u64],
+}
+
+impl Program<'_> {
+    // The row of a method's M line.
+    pub fn method_row(&self, number: usize) -> usize
+        requires { number * method_width < length self.now.methods.now }
+        ensures { result ≡ get_or self.now.methods.now (number * method_width) 0 }
+    {
+        usize::from(self.methods[number * METHOD_WIDTH])
+    }
+
+    // What stands at another place of a method's part in the table of methods.
+    pub fn method_entry(&self, number: usize, place: usize) -> usize
+        requires { number * method_width + place < length self.now.methods.now }
+        ensures { result ≡ get_or self.now.methods.now (number * method_width + place) 0 }
+    {
+        usize::from(self.methods[number * METHOD_WIDTH + place])
+    }
 }
 
 // A refusal on the line of row `at`.

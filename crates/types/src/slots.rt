@@ -69,15 +69,15 @@ pub fn apply_number(table: &[u16], effect: u64, number: u32) -> u32
 }
 
 // An effect applied to the slots in scope.
+#[tactic(auto, unfolding(crate::specs::Tables::applied_slot))]
 pub fn apply_all(table: &[u16], slots: &mut [u32], size: usize, effect: u64)
     requires size_in_bounds { size ≤ length slots.old }
     requires by_index { (k : ℕ) → k < size → Applicable table.now (current_in (get_or slots.old k 0)) }
     ensures { Changed slots.old slots.new size
         (λ k. applied_slot table.now effect (get_or slots.old k 0)) }
 {
-    for i in 0..size {
-        let slot = slots[i];
-        slots[i] = with_current(slot, apply_number(table, effect, current(slot)));
+    for slot in &mut slots[..size] {
+        *slot = with_current(*slot, apply_number(table, effect, current(*slot)));
     }
 }
 
@@ -88,9 +88,8 @@ pub fn store_type(table: &[u16], slots: &mut [u32], top: usize, n: usize, r: Typ
     requires by_index { (k : ℕ) → k < n → Applicable table.now (get_or slots.old (top + k) 0) }
     ensures { PostStore table.now slots.old slots.new top n r }
 {
-    for i in 0..n {
-        let place = top + i;
-        slots[place] = apply_number(table, r.effect, slots[place]);
+    for number in &mut slots[top..top + n] {
+        *number = apply_number(table, r.effect, *number);
     }
     slots[top + n] = number_of(r.typing);
 }
@@ -121,12 +120,12 @@ pub fn swap(slots: &mut [u32], size: usize, top: usize)
     requires { (top + size ≤ length slots.old) × (size ≤ top) }
     ensures { Swapped slots.old slots.new top size }
 {
-    for i in 0..size {
-        slots.swap(i, top + i);
-    }
+    let (low, high) = slots.split_at_mut(top);
+    low[..size].swap_with_slice(&mut high[..size]);
 }
 
 // The slots in scope join with those of the first arm, which were saved.
+#[tactic(auto, unfolding(crate::specs::Tables::joined_slot))]
 pub fn join_slots(table: &[u16], above: &[u64], slots: &mut [u32], size: usize, top: usize)
     requires { PreJoin table.now above.now slots.old size top }
     ensures { Changed slots.old slots.new size

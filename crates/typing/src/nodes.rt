@@ -10,7 +10,7 @@ use language::{
     TYPE_REFUSAL, Type, class_entry, first, second,
 };
 use types::slots::{Scope, apply_all, current, fresh, join_slots, with_current};
-use types::{Typed, Typing, is_fitting, is_type, join_types, plain, refused, typing_of};
+use types::{Program, Typed, Typing, is_fitting, is_type, join_types, plain, refused, typing_of};
 
 // The kinds of the classes whose objects change.
 const ROOT_KIND: u32 = 1;
@@ -85,23 +85,22 @@ pub fn cast(rows: &[u32], at: usize, scope: Scope, child: Typed) -> Result<Typed
 // A: 7, 9. The slot's current type stays; the result has the value's type.
 #[tactic(auto, unfolding(crate::specs::Nodes::assigned))]
 pub fn assign(
-    rows: &[u32],
-    above: &[u64],
+    program: &Program,
     slots: &[u32],
     at: usize,
     scope: Scope,
     child: Typed,
 ) -> Result<Typed, Refusal>
-    requires { PreAssign rows.now above.now slots.now at scope.size child.typing }
-    ensures { result ≡ assigned rows.now above.now slots.now at
+    requires { PreAssign program.now.rows.now program.now.above.now slots.now at scope.size child.typing }
+    ensures { result ≡ assigned program.now.rows.now program.now.above.now slots.now at
         scope.size child }
 {
-    let k = first(rows, at) as usize;
+    let k = first(program.rows, at) as usize;
     if k == 0 || scope.size <= k {
         return Err(refused(SLOT_REFUSAL, at));
     }
     let allowed = Type::from_number(current(slots[k]));
-    if !is_fitting(above, child.typing, allowed) {
+    if !is_fitting(program.above, child.typing, allowed) {
         return Err(refused(TYPE_REFUSAL, at));
     }
     Ok(child)
@@ -133,18 +132,17 @@ fn can_change(table: &[u16], class: u32, target: u32) -> bool
 
 // R: 4, 7, 11. The root is applied to all slots, then the slot has the target's class.
 pub fn change(
-    rows: &[u32],
-    table: &[u16],
+    program: &Program,
     slots: &mut [u32],
     at: usize,
     scope: Scope,
 ) -> Result<Typed, Refusal>
-    requires { PreChange rows.now table.now slots.old scope.count at scope.size }
-    ensures { PostChange rows.now table.now slots.old
+    requires { PreChange program.now.rows.now program.now.table.now slots.old scope.count at scope.size }
+    ensures { PostChange program.now.rows.now program.now.table.now slots.old
         slots.new scope.count at scope.size result }
 {
-    let k = first(rows, at) as usize;
-    let target = second(rows, at);
+    let k = first(program.rows, at) as usize;
+    let target = second(program.rows, at);
     if scope.count < target {
         return Err(refused(NAME_REFUSAL, at));
     }
@@ -155,11 +153,11 @@ pub fn change(
     if number == NO_TYPE {
         return Err(refused(SLOT_REFUSAL, at));
     }
-    if number == Type::BOOL || !can_change(table, number, target) {
+    if number == Type::BOOL || !can_change(program.table, number, target) {
         return Err(refused(CHANGE_REFUSAL, at));
     }
-    let effect = classes::effect_of(class_entry(table, target, ROOT_PLACE));
-    apply_all(table, slots, scope.size, effect);
+    let effect = classes::effect_of(class_entry(program.table, target, ROOT_PLACE));
+    apply_all(program.table, slots, scope.size, effect);
     slots[k] = with_current(slots[k], target);
     Ok(Typed {
         typing: Typing::Class(target),
@@ -169,8 +167,7 @@ pub fn change(
 
 // J, after its arms: 9 for the condition, 9 for the join.
 pub fn choice(
-    table: &[u16],
-    above: &[u64],
+    program: &Program,
     slots: &mut [u32],
     at: usize,
     scope: Scope,
@@ -178,18 +175,18 @@ pub fn choice(
     yes: Typed,
     no: Typed,
 ) -> Result<Typed, Refusal>
-    requires { PreChoice table.now above.now slots.old at scope.size scope.top yes.typing
+    requires { PreChoice program.now.table.now program.now.above.now slots.old at scope.size scope.top yes.typing
         no.typing }
-    ensures { PostChoice table.now above.now slots.old
+    ensures { PostChoice program.now.table.now program.now.above.now slots.old
         slots.new at scope.size scope.top condition yes no result }
 {
     let Typing::Bool = condition.typing else {
         return Err(refused(TYPE_REFUSAL, at));
     };
-    let Some(typing) = join_types(table, above, yes.typing, no.typing) else {
+    let Some(typing) = join_types(program.table, program.above, yes.typing, no.typing) else {
         return Err(refused(TYPE_REFUSAL, at));
     };
-    join_slots(table, above, slots, scope.size, scope.top);
+    join_slots(program.table, program.above, slots, scope.size, scope.top);
     Ok(Typed {
         typing,
         effect: condition.effect | (yes.effect | no.effect),

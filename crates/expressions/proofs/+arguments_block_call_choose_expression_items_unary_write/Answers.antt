@@ -53,11 +53,11 @@ arguments-returns-in_err-r t c = rw (passed_on c.from_residual.result c.from_res
 pub arguments-store_type-requires : goal.arguments-store_type-requires
 arguments-store_type-requires t c = let k = store_ready c.loop-i.invariant c.loop-i-test.true c.expression.ensures in record { n_in_bounds = k.0; by_index = k.1 }
 
-pub arguments-offset_bounds-ends-next : goal.arguments-offset_bounds-ends-next
-arguments-offset_bounds-ends-next t c = omega (arith, (in_row (argument_pre c.loop-i.invariant c.loop-i-test.true)).3)
+pub arguments-offset_bounds-program-next : goal.arguments-offset_bounds-program-next
+arguments-offset_bounds-program-next t c = omega (arith, (in_row (argument_pre c.loop-i.invariant c.loop-i-test.true)).3)
 
-pub arguments-bounds-ends-next : goal.arguments-bounds-ends-next
-arguments-bounds-ends-next t c = (in_row (argument_pre c.loop-i.invariant c.loop-i-test.true)).1
+pub arguments-bounds-program-next : goal.arguments-bounds-program-next
+arguments-bounds-program-next t c = (in_row (argument_pre c.loop-i.invariant c.loop-i-test.true)).1
 
 pub arguments-loop-i-preserved : goal.arguments-loop-i-preserved
 arguments-loop-i-preserved t c = arguments_next c.loop-i.invariant c.loop-i-test.true c.expression.ensures
@@ -95,7 +95,7 @@ block-items-requires t c = (
 pub block-returns : goal.block-returns
 block-returns t c = block_done c.requires.pre c.requires.at_value _ _ c.first-v.ensures
     c.second-n.ensures
-    c.open.ensures c.in_ok-open.was c.plain.ensures
+    c.open.ensures c.in_ok-open.was
     c.items.ensures
 
 pub call-expression-requires : goal.call-expression-requires
@@ -109,8 +109,8 @@ call-returns-in_err-receiver t c = rw (passed_on c.from_residual.result c.from_r
     (call_fail c.requires.pre c.requires.at_value c.expression.ensures
     c.in_err-receiver.was)
 
-pub call-bounds-ends-at : goal.call-bounds-ends-at
-call-bounds-ends-at t c = (in_row (call_first c.requires.pre c.requires.at_value)).1
+pub call-bounds-program-at : goal.call-bounds-program-at
+call-bounds-program-at t c = (in_row (call_first c.requires.pre c.requires.at_value)).1
 
 pub call-second-n-requires : goal.call-second-n-requires
 call-second-n-requires t c = omega (arith, (in_row c.requires.pre).0)
@@ -135,12 +135,12 @@ pub call-returns-in_err-items : goal.call-returns-in_err-items
 call-returns-in_err-items t c = rw (passed_on c.from_residual-in_err-items.result c.from_residual-in_err-items.ensures.1)
     (call_fail_many c.requires.pre c.requires.at_value c.expression.ensures
     c.in_ok-receiver.was _ c.second-n.ensures c.if-n-gt-MOST_ARGUMENTS.true
-    c.plain.ensures c.items.ensures c.in_err-items.was)
+    c.items.ensures c.in_err-items.was)
 
 pub call-returns-then-n-gt-MOST_ARGUMENTS : goal.call-returns-then-n-gt-MOST_ARGUMENTS
 call-returns-then-n-gt-MOST_ARGUMENTS t c = call_many c.requires.pre c.requires.at_value c.expression.ensures
     c.in_ok-receiver.was _ c.second-n.ensures c.if-n-gt-MOST_ARGUMENTS.true
-    c.plain.ensures c.items.ensures c.in_ok-items.was c.too_many.ensures
+    c.items.ensures c.in_ok-items.was c.too_many.ensures
 
 pub call-arguments-requires : goal.call-arguments-requires
 call-arguments-requires t c = (
@@ -188,8 +188,8 @@ choose-returns-in_err-condition t c = rw (passed_on c.from_residual.result c.fro
     (choose_fail c.requires.pre c.requires.at_value c.expression.ensures
     c.in_err-condition.was)
 
-pub choose-bounds-ends-at : goal.choose-bounds-ends-at
-choose-bounds-ends-at t c = (in_row (choose_first c.requires.pre c.requires.at_value)).1
+pub choose-bounds-program-at : goal.choose-bounds-program-at
+choose-bounds-program-at t c = (in_row (choose_first c.requires.pre c.requires.at_value)).1
 
 pub choose-save-requires : goal.choose-save-requires
 choose-save-requires t c = save_pre c.requires.pre c.requires.at_value c.expression.ensures
@@ -212,8 +212,8 @@ choose-returns-in_err-yes t c = rw (passed_on c.from_residual-in_err-yes.result 
     c.in_ok-condition.was c.save.ensures
     c.expression-2.ensures c.in_err-yes.was)
 
-pub choose-bounds-ends-first : goal.choose-bounds-ends-first
-choose-bounds-ends-first t c = (in_row (choose_second c.requires.pre c.requires.at_value c.expression.ensures
+pub choose-bounds-program-first : goal.choose-bounds-program-first
+choose-bounds-program-first t c = (in_row (choose_second c.requires.pre c.requires.at_value c.expression.ensures
     c.in_ok-condition.was c.save.ensures)).1
 
 pub choose-swap-requires : goal.choose-swap-requires
@@ -360,7 +360,7 @@ pub expression-returns-in_default : goal.expression-returns-in_default
 expression-returns-in_default t c = c.unary.ensures
 
 pub items-loop-init : goal.items-loop-init
-items-loop-init t c = items_start c.requires (omega arith)
+items-loop-init t c = rw c.plain-so_far.ensures (items_start c.requires (omega arith))
 
 pub items-expression-requires : goal.items-expression-requires
 items-expression-requires t c = (
@@ -381,15 +381,15 @@ items-returns-in_err-r t c = rw (passed_on c.from_residual.result c.from_residua
     (items_broken c.loop.invariant (λ e. omega (arith, c.loop-test.true))
     c.expression.ensures c.in_err-r.was)
 
-pub items-offset_bounds-ends-next : goal.items-offset_bounds-ends-next
-items-offset_bounds-ends-next t c = omega (
+pub items-offset_bounds-program-next : goal.items-offset_bounds-program-next
+items-offset_bounds-program-next t c = omega (
   arith,
   (in_row
       (first_pre c.loop.invariant.pre (λ e. omega (arith, c.loop-test.true)))).3,
 )
 
-pub items-bounds-ends-next : goal.items-bounds-ends-next
-items-bounds-ends-next t c = (in_row (first_pre c.loop.invariant.pre (λ e. omega (arith, c.loop-test.true)))).1
+pub items-bounds-program-next : goal.items-bounds-program-next
+items-bounds-program-next t c = (in_row (first_pre c.loop.invariant.pre (λ e. omega (arith, c.loop-test.true)))).1
 
 pub items-loop-preserved : goal.items-loop-preserved
 items-loop-preserved t c = items_next c.loop.invariant (λ e. omega (arith, c.loop-test.true))
@@ -458,8 +458,8 @@ write-returns-in_err-object t c = rw (passed_on c.from_residual.result c.from_re
     (write_fail c.requires.pre c.requires.at_value c.expression.ensures
     c.in_err-object.was)
 
-pub write-bounds-ends-at : goal.write-bounds-ends-at
-write-bounds-ends-at t c = (in_row (write_first c.requires.pre c.requires.at_value)).1
+pub write-bounds-program-at : goal.write-bounds-program-at
+write-bounds-program-at t c = (in_row (write_first c.requires.pre c.requires.at_value)).1
 
 pub write-expression-requires-2 : goal.write-expression-requires-2
 write-expression-requires-2 t c = (

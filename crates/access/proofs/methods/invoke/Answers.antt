@@ -1,6 +1,6 @@
 -- `access::methods::invoke` meets its contract. Assumes nothing.
 use mathlib.Core.Path.{refl, sym, ap, ◌∙◌}
-use Prim.Native.Nat.{ℕ, ◌-◌}
+use Prim.Native.Nat.{ℕ}
 use Rattle.std.specs.Prelude.{Err}
 use native.Mathlib.Omega.{arith}
 use lib.ListN.{set}
@@ -25,65 +25,67 @@ class_entry-stored-requires c = omega (
   c.first-name.ensures,
 )
 
-pub returns-then-stored-eq0 : goal.returns-then-stored-eq0
-returns-then-stored-eq0 c = no_method _ c.in-Class.is
+pub returns-in_default-checked_sub : goal.returns-in_default-checked_sub
+returns-in_default-checked_sub c = no_method _ c.in-Class.is
     (place_none _ _ _ _ _ _ _ c.apply-class.ensures c.first-name.ensures
     c.class_entry-stored.ensures
-    c.if-stored-eq0.true) (ap Err c.refused-then-stored-eq0.ensures) (record { slots_same = refl; classes_same = refl })
-
-pub overflow_mul-parameters : goal.overflow_mul-parameters
-overflow_mul-parameters c = omega (arith, (called_method c.requires c.in-Class.is c.apply-class.ensures c.first-name.ensures c.class_entry-stored.ensures c.if-stored-eq0.false).inside, c.well_formed)
-
-pub overflow_add-parameters : goal.overflow_add-parameters
-overflow_add-parameters c = omega (arith, (called_method c.requires c.in-Class.is c.apply-class.ensures c.first-name.ensures c.class_entry-stored.ensures c.if-stored-eq0.false).inside, c.well_formed)
-
-pub offset_bounds-methods-number : goal.offset_bounds-methods-number
-offset_bounds-methods-number c = omega (arith, (called_method c.requires c.in-Class.is c.apply-class.ensures c.first-name.ensures c.class_entry-stored.ensures c.if-stored-eq0.false).inside, c.well_formed)
-
-pub bounds-methods-number : goal.bounds-methods-number
-bounds-methods-number c = omega (arith, (called_method c.requires c.in-Class.is c.apply-class.ensures c.first-name.ensures c.class_entry-stored.ensures c.if-stored-eq0.false).inside)
-
-pub returns-then-parameters-n : goal.returns-then-parameters-n
-returns-then-parameters-n c = other_count _ _ c.in-Class.is
-    (place_some _ _ _ _ _ _ _ c.apply-class.ensures c.first-name.ensures
-    c.class_entry-stored.ensures
-    c.if-stored-eq0.false)
-    (λ e. c.if-parameters-n.true (e ∙ sym c.second-n.ensures)) (ap Err c.refused-then-parameters-n.ensures)
+    (omega (arith, c.in_default-checked_sub.ensures))) (ap Err c.refused-in_default-checked_sub.ensures)
     (record { slots_same = refl; classes_same = refl })
 
-pub overflow_mul-row : goal.overflow_mul-row
-overflow_mul-row c = omega (arith, (called_method c.requires c.in-Class.is c.apply-class.ensures c.first-name.ensures c.class_entry-stored.ensures c.if-stored-eq0.false).inside, c.well_formed)
+pub method_entry-requires : goal.method_entry-requires
+method_entry-requires c = (called_method c.requires c.in-Class.is c.apply-class.ensures c.first-name.ensures c.class_entry-stored.ensures
+    c.in-Some.number (omega (arith, c.in-Some.ensures))).inside
 
-pub offset_bounds-methods-number-2 : goal.offset_bounds-methods-number-2
-offset_bounds-methods-number-2 c = omega (arith, (called_method c.requires c.in-Class.is c.apply-class.ensures c.first-name.ensures c.class_entry-stored.ensures c.if-stored-eq0.false).inside, c.well_formed)
+pub returns-then-method_entry-n : goal.returns-then-method_entry-n
+returns-then-method_entry-n c = other_count _ _ c.in-Class.is
+    (place_some _ _ _ _ _ _ _ c.apply-class.ensures c.first-name.ensures
+    c.class_entry-stored.ensures (omega (arith, c.in-Some.ensures)))
+    (λ e. c.if-method_entry-n.true (c.method_entry.ensures ∙ (e ∙ sym c.second-n.ensures)))
+    (ap Err c.refused-then-method_entry-n.ensures)
+    (record { slots_same = refl; classes_same = refl })
 
-pub bounds-methods-number-2 : goal.bounds-methods-number-2
-bounds-methods-number-2 c = omega (arith, (called_method c.requires c.in-Class.is c.apply-class.ensures c.first-name.ensures c.class_entry-stored.ensures c.if-stored-eq0.false).inside)
+pub method_row-row-requires : goal.method_row-row-requires
+method_row-row-requires c = omega (
+  arith,
+  (called_method c.requires c.in-Class.is c.apply-class.ensures c.first-name.ensures c.class_entry-stored.ensures
+      c.in-Some.number (omega (arith, c.in-Some.ensures))).inside,
+)
 
 pub overflow_add-row : goal.overflow_add-row
-overflow_add-row c = omega (arith, (called_method c.requires c.in-Class.is c.apply-class.ensures c.first-name.ensures c.class_entry-stored.ensures c.if-stored-eq0.false).line, c.well_formed)
+overflow_add-row c = omega (
+  arith,
+  c.method_row-row.ensures,
+  (called_method c.requires c.in-Class.is c.apply-class.ensures c.first-name.ensures c.class_entry-stored.ensures
+      c.in-Some.number (omega (arith, c.in-Some.ensures))).line,
+  c.well_formed,
+)
 
 pub are_fitting-requires : goal.are_fitting-requires
-are_fitting-requires c = rw c.second-n.ensures
-    ((called_method c.requires c.in-Class.is c.apply-class.ensures c.first-name.ensures
-    c.class_entry-stored.ensures c.if-stored-eq0.false).fitting
-    (c.if-parameters-n.false ∙ c.second-n.ensures))
+are_fitting-requires c = rw (c.second-n.ensures, c.method_row-row.ensures)
+    ((called_method c.requires c.in-Class.is c.apply-class.ensures c.first-name.ensures c.class_entry-stored.ensures
+    c.in-Some.number (omega (arith, c.in-Some.ensures))).fitting (sym c.method_entry.ensures ∙ (c.if-method_entry-n.false ∙ c.second-n.ensures)))
 
 pub returns-then-not-are_fitting : goal.returns-then-not-are_fitting
 returns-then-not-are_fitting c = unfit _ _ c.in-Class.is
     (place_some _ _ _ _ _ _ _ c.apply-class.ensures c.first-name.ensures
-    c.class_entry-stored.ensures c.if-stored-eq0.false)
-    (c.if-parameters-n.false ∙ c.second-n.ensures)
-    (rw (← c.second-n.ensures)
+    c.class_entry-stored.ensures (omega (arith, c.in-Some.ensures)))
+    (sym c.method_entry.ensures ∙ (c.if-method_entry-n.false ∙ c.second-n.ensures))
+    (rw (← c.second-n.ensures, ← c.method_row-row.ensures)
     (sym c.are_fitting.ensures ∙ c.if-not-are_fitting.true))
     (ap Err c.refused-then-not-are_fitting.ensures)
     (record { slots_same = refl; classes_same = refl })
 
-pub offset_bounds-effects-number : goal.offset_bounds-effects-number
-offset_bounds-effects-number c = omega (arith, (called_method c.requires c.in-Class.is c.apply-class.ensures c.first-name.ensures c.class_entry-stored.ensures c.if-stored-eq0.false).effect, c.well_formed)
+pub offset_bounds-program-number : goal.offset_bounds-program-number
+offset_bounds-program-number c = omega (
+  arith,
+  (called_method c.requires c.in-Class.is c.apply-class.ensures c.first-name.ensures c.class_entry-stored.ensures
+      c.in-Some.number (omega (arith, c.in-Some.ensures))).effect,
+  c.well_formed,
+)
 
-pub bounds-effects-number : goal.bounds-effects-number
-bounds-effects-number c = (called_method c.requires c.in-Class.is c.apply-class.ensures c.first-name.ensures c.class_entry-stored.ensures c.if-stored-eq0.false).effect
+pub bounds-program-number : goal.bounds-program-number
+bounds-program-number c = (called_method c.requires c.in-Class.is c.apply-class.ensures c.first-name.ensures c.class_entry-stored.ensures
+    c.in-Some.number (omega (arith, c.in-Some.ensures))).effect
 
 pub note-requires : goal.note-requires
 note-requires c = omega (arith, c.apply-class.ensures, (c.requires.receiver _ c.in-Class.is).low)
@@ -91,19 +93,21 @@ note-requires c = omega (arith, c.apply-class.ensures, (c.requires.receiver _ c.
 pub first-requires : goal.first-requires
 first-requires c = omega (
   arith,
-  (called_method c.requires c.in-Class.is c.apply-class.ensures c.first-name.ensures c.class_entry-stored.ensures c.if-stored-eq0.false).line,
+  c.method_row-row.ensures,
+  (called_method c.requires c.in-Class.is c.apply-class.ensures c.first-name.ensures c.class_entry-stored.ensures
+      c.in-Some.number (omega (arith, c.in-Some.ensures))).line,
 )
 
 pub returns : goal.returns
 returns c = done _ _ c.in-Class.is
     (place_some _ _ _ _ _ _ _ c.apply-class.ensures c.first-name.ensures
-    c.class_entry-stored.ensures c.if-stored-eq0.false)
-    (c.if-parameters-n.false ∙ c.second-n.ensures)
-    (rw (← c.second-n.ensures)
+    c.class_entry-stored.ensures (omega (arith, c.in-Some.ensures)))
+    (sym c.method_entry.ensures ∙ (c.if-method_entry-n.false ∙ c.second-n.ensures))
+    (rw (← c.second-n.ensures, ← c.method_row-row.ensures)
     (sym c.are_fitting.ensures ∙ c.if-not-are_fitting.false))
     (record {
-      out = done_out c.args.rows.now
-          (method_line c.args.methods.now (c.class_entry-stored.result - 1)) _ _ _ _ _
+      out = done_out c.args.program.now.rows.now
+          (method_line c.args.program.now.methods.now c.in-Some.number) _ _ _ _ _ _ c.method_row-row.ensures
           (c.from_number.ensures ∙ c.first.ensures)
           c.typing_of.ensures;
       slots = c.apply_all.ensures;

@@ -1,10 +1,8 @@
 -- `types::slots::store_type` meets its contract. Assumes nothing.
-use Prim.Native.Nat.{◌-◌, ◌≤◌}
-use Rattle.types.proofs.Waiting.{Waiting}
+use lib.ListN.{get_or}
+use Rattle.types.specs.Tables.{Changed, applied_number}
 use Rattle.types.proofs.slots.store_type.Given as goal
 
-abbrev pub invariant-loop-i : goal.invariant-loop-i
-invariant-loop-i l = (l.i ≤ l.n) × Waiting l.table l.initial.slots l.slots l.top l.i l.r.effect
-
-abbrev pub decreases-loop-i : goal.decreases-loop-i
-decreases-loop-i l = l.n - l.i
+abbrev pub invariant-loop-number : goal.invariant-loop-number
+invariant-loop-number l = Changed l.initial.number-items l.number-items l.number-index
+    (λ k. applied_number l.table l.r.effect (get_or l.initial.number-items k 0))
