@@ -203,7 +203,7 @@ fn items(
 {
     let mut r = NULL;
     let mut next = at;
-    for i in 0..n {
+    for _ in 0..n {
         r = eval(program, store, slots, tally, next, place);
         if r >= STUCK {
             return r;

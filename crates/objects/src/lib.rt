@@ -35,6 +35,8 @@ pub const TRUE: u64 = KIND + 1;
 
 const OBJECT: u64 = 2 * KIND;
 
+// Kept: an outcome as one word. As an enum it passed through memory, and 45 percent of the time of a run was at loads of its
+// parts (docs/PERFORMANCE.md, "Runner").
 // Why there is no value: no rule goes on, which no checked program reaches; the exceptions; the stops.
 pub const STUCK: u64 = 4 * KIND;
 

@@ -5,14 +5,14 @@ use Rattle.objects.specs.Values.{Gave, meaning, outcome}
 use Rattle.objects.proofs.Values.{outcome_value, not_gave, meaning_null, word_of_outcome, outcome_stuck}
 use Rattle.objects.proofs.Values.{case_truth, outcome_spent}
 use Rattle.evaluator.proofs.Steps.{kept_of, in_rows, eval_spent, none_left, some_left, left_falls}
-use Rattle.evaluator.proofs.Steps.{eval_entered, pre_entered, pre_leaf, rest_one, one_pre, pre_apply}
+use Rattle.evaluator.proofs.Steps.{eval_entered, pre_entered, rest_one, one_pre, pre_apply}
 use Rattle.evaluator.proofs.Steps.{one_fail, one_done}
 use Rattle.evaluator.proofs.Lists.{list_first, items_start, items_head, items_broken, items_next}
 use Rattle.evaluator.proofs.Lists.{items_ended}
-use Rattle.evaluator.proofs.Arguments.{args_start, args_head, args_broken, args_room, args_next}
+use Rattle.evaluator.proofs.Arguments.{args_start, args_head, args_broken, args_next}
 use Rattle.evaluator.proofs.Arguments.{args_ended}
 use Rattle.evaluator.proofs.Blocks.{block_apart, block_locals, block_items, block_done}
-use Rattle.evaluator.proofs.Calls.{call_apart, call_args, kept_args, top_room, call_fail, call_find}
+use Rattle.evaluator.proofs.Calls.{call_apart, call_args, kept_args, call_fail, call_find}
 use Rattle.evaluator.proofs.Calls.{call_enter, call_ends, call_done}
 use Rattle.evaluator.proofs.Entering.{width_small, nested_small, in_ends, ends_at, here_pre, here_done}
 use Rattle.evaluator.proofs.Entering.{own_pre, own_done, words_copied}
@@ -35,36 +35,10 @@ args-eval-r-requires t c = (
   list_first (args_head c.loop-slot.invariant (omega arith)),
 )
 
-pub args-shape_of-store-then-r-ge-STUCK : goal.args-shape_of-store-then-r-ge-STUCK
-args-shape_of-store-then-r-ge-STUCK t c = c.eval-r.auto.store
-    ∙ c.loop-slot.invariant.long_store
-
 pub args-returns-then-r-ge-STUCK : goal.args-returns-then-r-ge-STUCK
 args-returns-then-r-ge-STUCK t c = args_broken c.loop-slot.invariant (omega arith)
     c.eval-r.ensures
     (not_gave c.eval-r.result c.if-r-ge-STUCK.true)
-
-pub args-offset_bounds-slots-slot : goal.args-offset_bounds-slots-slot
-args-offset_bounds-slots-slot t c = omega (
-  arith,
-  c.requires.list.ready.whole,
-  args_room c.loop-slot.invariant (omega arith)
-      c.eval-r.ensures,
-  c.loop-slot.invariant.long_slots,
-  (kept_of (list_first (args_head c.loop-slot.invariant (omega arith)))
-      c.eval-r.ensures).long,
-)
-
-pub args-bounds-slots-slot : goal.args-bounds-slots-slot
-args-bounds-slots-slot t c = omega (
-  arith,
-  c.requires.list.ready.whole,
-  args_room c.loop-slot.invariant (omega arith)
-      c.eval-r.ensures,
-  c.loop-slot.invariant.long_slots,
-  (kept_of (list_first (args_head c.loop-slot.invariant (omega arith)))
-      c.eval-r.ensures).long,
-)
 
 pub args-offset_bounds-program-next : goal.args-offset_bounds-program-next
 args-offset_bounds-program-next t c = omega (
@@ -85,65 +59,14 @@ args-loop-slot-preserved t c = let e : c.loop-slot.slot + 1 - c.args.place.now.t
     (kept_of (list_first (args_head c.loop-slot.invariant (omega arith)))
     c.eval-r.ensures).small))
 
-pub args-shape_of-store : goal.args-shape_of-store
-args-shape_of-store t c = c.loop-slot.invariant.long_store
-
 pub args-returns : goal.args-returns
 args-returns t c = args_ended c.loop-slot.invariant (omega arith)
 
 -- `block`
 
-pub block-first-n-requires : goal.block-first-n-requires
-block-first-n-requires t c = omega (arith, (block_apart c.requires.pre_entered c.requires.at_value).row, c.well_formed.0)
-
-pub block-second-k-requires : goal.block-second-k-requires
-block-second-k-requires t c = omega (arith, (block_apart c.requires.pre_entered c.requires.at_value).row, c.well_formed.0)
-
-pub block-overflow_add-at : goal.block-overflow_add-at
-block-overflow_add-at t c = omega (
-  arith,
-  c.requires.pre_entered.ready.frame,
-  c.requires.pre_entered.ready.scoped,
-  c.requires.pre_entered.ready.above,
-  (block_apart c.requires.pre_entered c.requires.at_value).wide,
-  (block_apart c.requires.pre_entered c.requires.at_value).locals,
-  (block_apart c.requires.pre_entered c.requires.at_value).row,
-  c.requires.pre_entered.ready.whole,
-  c.well_formed.0,
-  c.first-n.ensures,
-)
-
 pub block-open_locals-requires : goal.block-open_locals-requires
 block-open_locals-requires t c = rw c.first-n.ensures
     (block_locals (block_apart c.requires.pre_entered c.requires.at_value))
-
-pub block-overflow_add-at-2 : goal.block-overflow_add-at-2
-block-overflow_add-at-2 t c = omega (
-  arith,
-  c.requires.pre_entered.ready.frame,
-  c.requires.pre_entered.ready.scoped,
-  c.requires.pre_entered.ready.above,
-  (block_apart c.requires.pre_entered c.requires.at_value).wide,
-  (block_apart c.requires.pre_entered c.requires.at_value).locals,
-  (block_apart c.requires.pre_entered c.requires.at_value).row,
-  c.requires.pre_entered.ready.whole,
-  c.well_formed.0,
-  c.first-n.ensures,
-)
-
-pub block-overflow_add-at-3 : goal.block-overflow_add-at-3
-block-overflow_add-at-3 t c = omega (
-  arith,
-  c.requires.pre_entered.ready.frame,
-  c.requires.pre_entered.ready.scoped,
-  c.requires.pre_entered.ready.above,
-  (block_apart c.requires.pre_entered c.requires.at_value).wide,
-  (block_apart c.requires.pre_entered c.requires.at_value).locals,
-  (block_apart c.requires.pre_entered c.requires.at_value).row,
-  c.requires.pre_entered.ready.whole,
-  c.well_formed.0,
-  c.first-n.ensures,
-)
 
 pub block-items-requires : goal.block-items-requires
 block-items-requires t c = (
@@ -154,9 +77,6 @@ block-items-requires t c = (
       (omega (arith, c.second-k.type_inv, c.second-k.ensures))),
 )
 
-pub block-shape_of-store : goal.block-shape_of-store
-block-shape_of-store t c = c.items.auto.store
-
 pub block-returns : goal.block-returns
 block-returns t c = block_done c.args.at
     c.requires.at_value
@@ -165,28 +85,6 @@ block-returns t c = block_done c.args.at
     (rw (c.first-n.ensures, c.second-k.ensures) at c.items.ensures)
 
 -- `call`
-
-pub call-overflow_mul-n : goal.call-overflow_mul-n
-call-overflow_mul-n t c = omega (arith, (call_apart c.requires.pre_entered c.requires.at_value).row, c.well_formed.0)
-
-pub call-overflow_add-n : goal.call-overflow_add-n
-call-overflow_add-n t c = omega (arith, (call_apart c.requires.pre_entered c.requires.at_value).row, c.well_formed.0)
-
-pub call-offset_bounds-rows-at : goal.call-offset_bounds-rows-at
-call-offset_bounds-rows-at t c = omega (arith, (call_apart c.requires.pre_entered c.requires.at_value).row, c.well_formed.0)
-
-pub call-bounds-rows-at : goal.call-bounds-rows-at
-call-bounds-rows-at t c = omega (arith, (call_apart c.requires.pre_entered c.requires.at_value).row, c.well_formed.0)
-
-pub call-overflow_add-at : goal.call-overflow_add-at
-call-overflow_add-at t c = omega (arith, (call_apart c.requires.pre_entered c.requires.at_value).row, c.well_formed.0)
-
-pub call-overflow_add-n-2 : goal.call-overflow_add-n-2
-call-overflow_add-n-2 t c = omega (
-  arith,
-  (call_apart c.requires.pre_entered c.requires.at_value).many,
-  (call_apart c.requires.pre_entered c.requires.at_value).few,
-)
 
 pub call-args-r-requires : goal.call-args-r-requires
 call-args-r-requires t c = (
@@ -198,51 +96,10 @@ call-args-r-requires t c = (
   call_args (call_apart c.requires.pre_entered c.requires.at_value),
 )
 
-pub call-shape_of-store-then-r-ge-STUCK : goal.call-shape_of-store-then-r-ge-STUCK
-call-shape_of-store-then-r-ge-STUCK t c = c.args-r.auto.store
-
 pub call-returns-then-r-ge-STUCK : goal.call-returns-then-r-ge-STUCK
 call-returns-then-r-ge-STUCK t c = call_fail c.args.at
     c.requires.at_value c.args-r.ensures
     (not_gave c.args-r.result c.if-r-ge-STUCK.true)
-
-pub call-offset_bounds-slots-place : goal.call-offset_bounds-slots-place
-call-offset_bounds-slots-place t c = omega (
-  arith,
-  top_room (call_apart
-      c.requires.pre_entered
-      c.requires.at_value)
-      c.args-r.ensures,
-  (kept_args (call_apart c.requires.pre_entered
-      c.requires.at_value)
-      c.args-r.ensures).long,
-  c.requires.pre_entered.ready.whole,
-)
-
-pub call-bounds-slots-place : goal.call-bounds-slots-place
-call-bounds-slots-place t c = omega (
-  arith,
-  top_room (call_apart
-      c.requires.pre_entered
-      c.requires.at_value)
-      c.args-r.ensures,
-  (kept_args (call_apart c.requires.pre_entered
-      c.requires.at_value)
-      c.args-r.ensures).long,
-  c.requires.pre_entered.ready.whole,
-)
-
-pub call-overflow_mul-m : goal.call-overflow_mul-m
-call-overflow_mul-m t c = omega (arith, (call_apart c.requires.pre_entered c.requires.at_value).row, c.well_formed.0)
-
-pub call-overflow_add-m : goal.call-overflow_add-m
-call-overflow_add-m t c = omega (arith, (call_apart c.requires.pre_entered c.requires.at_value).row, c.well_formed.0)
-
-pub call-offset_bounds-rows-at-2 : goal.call-offset_bounds-rows-at-2
-call-offset_bounds-rows-at-2 t c = omega (arith, (call_apart c.requires.pre_entered c.requires.at_value).row, c.well_formed.0)
-
-pub call-bounds-rows-at-2 : goal.call-bounds-rows-at-2
-call-bounds-rows-at-2 t c = omega (arith, (call_apart c.requires.pre_entered c.requires.at_value).row, c.well_formed.0)
 
 pub call-find_body-requires : goal.call-find_body-requires
 call-find_body-requires t c = call_find (call_apart c.requires.pre_entered
@@ -280,9 +137,6 @@ call-overflow_add-place t c = let x = call_apart c.requires.pre_entered c.requir
       c.requires.pre_entered.ready.whole,
     )
 
-pub call-most_nested-requires : goal.call-most_nested-requires
-call-most_nested-requires t c = tt
-
 pub call-overflow_mul-most_nested : goal.call-overflow_mul-most_nested
 call-overflow_mul-most_nested t c = let x = call_apart c.requires.pre_entered c.requires.at_value in
     let p = call_enter x c.args-r.ensures c.in-Ok.ensures in
@@ -310,9 +164,6 @@ call-enter_fresh-requires t c = let x = call_apart c.requires.pre_entered c.requ
       ),
     )
 
-pub call-shape_of-store-then-place-width-gt1920 : goal.call-shape_of-store-then-place-width-gt1920
-call-shape_of-store-then-place-width-gt1920 t c = c.enter_fresh.auto.store ∙ c.args-r.auto.store
-
 pub call-returns-then-place-width-gt1920 : goal.call-returns-then-place-width-gt1920
 call-returns-then-place-width-gt1920 t c = call_done c.args.at c.requires.at_value c.args-r.ensures
     (outcome_value c.args-r.result (omega (arith, c.if-r-ge-STUCK.false))) c.in-Ok.ensures c.enter_fresh.ensures
@@ -325,15 +176,9 @@ call-eval-requires t c = let x = call_apart c.requires.pre_entered c.requires.at
           (omega (arith, c.if-place-width-gt1920.false, p.whole)) p,
     )
 
-pub call-shape_of-store-in-Err : goal.call-shape_of-store-in-Err
-call-shape_of-store-in-Err t c = c.args-r.auto.store
-
 pub call-returns-in-Err : goal.call-returns-in-Err
 call-returns-in-Err t c = call_ends c.args.at c.requires.at_value c.args-r.ensures
     (outcome_value c.args-r.result (omega (arith, c.if-r-ge-STUCK.false))) c.in-Err.ensures
-
-pub call-shape_of-store-else-place-width-gt1920 : goal.call-shape_of-store-else-place-width-gt1920
-call-shape_of-store-else-place-width-gt1920 t c = c.eval.auto.store ∙ c.args-r.auto.store
 
 pub call-returns-else-place-width-gt1920 : goal.call-returns-else-place-width-gt1920
 call-returns-else-place-width-gt1920 t c = let x = call_apart c.requires.pre_entered c.requires.at_value in
@@ -345,22 +190,13 @@ call-returns-else-place-width-gt1920 t c = let x = call_apart c.requires.pre_ent
 
 -- `choose`
 
-pub choose-overflow_add-at : goal.choose-overflow_add-at
-choose-overflow_add-at t c = omega (arith, (choose_apart c.requires.pre_entered c.requires.at_value).row)
-
 pub choose-eval-n-requires : goal.choose-eval-n-requires
 choose-eval-n-requires t c = (omega arith, choose_first (choose_apart c.requires.pre_entered c.requires.at_value))
-
-pub choose-shape_of-store-then-n-ge-STUCK : goal.choose-shape_of-store-then-n-ge-STUCK
-choose-shape_of-store-then-n-ge-STUCK t c = c.eval-n.auto.store
 
 pub choose-returns-then-n-ge-STUCK : goal.choose-returns-then-n-ge-STUCK
 choose-returns-then-n-ge-STUCK t c = choose_fail c.args.at
     c.requires.at_value c.eval-n.ensures
     (not_gave c.eval-n.result c.if-n-ge-STUCK.true)
-
-pub choose-shape_of-store-in_default : goal.choose-shape_of-store-in_default
-choose-shape_of-store-in_default t c = c.eval-n.auto.store
 
 pub choose-returns-in_default : goal.choose-returns-in_default
 choose-returns-in_default t c = rw outcome_stuck (choose_stuck c.args.at
@@ -370,12 +206,6 @@ choose-returns-in_default t c = rw outcome_stuck (choose_stuck c.args.at
     c.if-n-ge-STUCK.false)
     (null_or_object (meaning c.eval-n.result)
     (λ b e. c.in_default.not-Truth b (c.value_of.ensures ∙ e))))
-
-pub choose-overflow_add-yes : goal.choose-overflow_add-yes
-choose-overflow_add-yes t c = omega (arith, (choose_apart c.requires.pre_entered c.requires.at_value).in_ends)
-
-pub choose-offset_bounds-program-at : goal.choose-offset_bounds-program-at
-choose-offset_bounds-program-at t c = omega (arith, (choose_apart c.requires.pre_entered c.requires.at_value).in_ends)
 
 pub choose-bounds-program-at : goal.choose-bounds-program-at
 choose-bounds-program-at t c = omega (arith, (choose_apart c.requires.pre_entered c.requires.at_value).in_ends)
@@ -390,10 +220,6 @@ choose-eval-requires t c = (
   choose_second (choose_apart c.requires.pre_entered c.requires.at_value) c.eval-n.ensures,
 )
 
-pub choose-shape_of-store-then-b : goal.choose-shape_of-store-then-b
-choose-shape_of-store-then-b t c = c.eval.auto.store
-    ∙ c.eval-n.auto.store
-
 pub choose-returns-then-b : goal.choose-returns-then-b
 choose-returns-then-b t c = choose_yes c.args.at
     c.requires.at_value
@@ -403,13 +229,6 @@ choose-returns-then-b t c = choose_yes c.args.at
     (case_truth (meaning c.eval-n.result) (sym c.value_of.ensures ∙ c.in-Truth.is))
     c.if-b.true
     c.eval.ensures
-
-pub choose-offset_bounds-program-yes : goal.choose-offset_bounds-program-yes
-choose-offset_bounds-program-yes t c = omega (
-  arith,
-  (choose_apart c.requires.pre_entered c.requires.at_value).end_a,
-  (choose_apart c.requires.pre_entered c.requires.at_value).in_ends_b,
-)
 
 pub choose-bounds-program-yes : goal.choose-bounds-program-yes
 choose-bounds-program-yes t c = omega (
@@ -428,10 +247,6 @@ choose-eval-requires-2 t c = (
   choose_third (choose_apart c.requires.pre_entered c.requires.at_value) c.eval-n.ensures,
 )
 
-pub choose-shape_of-store : goal.choose-shape_of-store
-choose-shape_of-store t c = c.eval-2.auto.store
-    ∙ c.eval-n.auto.store
-
 pub choose-returns : goal.choose-returns
 choose-returns t c = choose_no c.args.at
     c.requires.at_value
@@ -444,12 +259,6 @@ choose-returns t c = choose_no c.args.at
 
 -- `enter_fresh`
 
-pub enter_fresh-copy_call-requires : goal.enter_fresh-copy_call-requires
-enter_fresh-copy_call-requires t c = (
-  c.requires.pre_enter.there,
-  omega (arith, length-replicate {A = ℕ} 1920 0, c.requires.pre_enter.few),
-)
-
 pub enter_fresh-eval-requires : goal.enter_fresh-eval-requires
 enter_fresh-eval-requires t c = (
   omega (arith, c.decreases),
@@ -459,9 +268,6 @@ enter_fresh-eval-requires t c = (
       c.requires.pre_enter.words)
       c.requires.pre_enter,
 )
-
-pub enter_fresh-shape_of-store : goal.enter_fresh-shape_of-store
-enter_fresh-shape_of-store t c = c.eval.auto.store
 
 pub enter_fresh-returns : goal.enter_fresh-returns
 enter_fresh-returns t c = own_done c.requires.width_value
@@ -479,80 +285,10 @@ eval-returns-then-runs_out t c = eval_spent outcome_spent (none_left c.runs_out.
 pub eval-letter_at-letter-requires : goal.eval-letter_at-letter-requires
 eval-letter_at-letter-requires t c = omega (arith, in_rows c.requires)
 
-pub eval-leaf-requires : goal.eval-leaf-requires
-eval-leaf-requires t c = record {
-  pre_leaf = pre_leaf (pre_entered (some_left c.runs_out.ensures.value c.if-runs_out.false)
-      c.runs_out.ensures.tally_after c.requires);
-  at_value = sym (rw c.letter_at-letter.ensures at c.is_leaf.ensures) ∙ c.if-is_leaf.true;
-}
-
-pub eval-shape_of-store-then-is_leaf : goal.eval-shape_of-store-then-is_leaf
-eval-shape_of-store-then-is_leaf t c = c.leaf.auto.store
-
 pub eval-returns-then-is_leaf : goal.eval-returns-then-is_leaf
 eval-returns-then-is_leaf t c = eval_entered (some_left c.runs_out.ensures.value c.if-runs_out.false)
     c.runs_out.ensures.tally_after
     (c.leaf.ensures.post _ _ _)
-
-pub eval-block-requires : goal.eval-block-requires
-eval-block-requires t c = (
-  omega (
-    arith,
-    left_falls c.args.tally.now
-        (some_left c.runs_out.ensures.value c.if-runs_out.false)
-        c.runs_out.ensures.tally_after,
-  ),
-  (
-    pre_entered (some_left c.runs_out.ensures.value c.if-runs_out.false)
-        c.runs_out.ensures.tally_after c.requires,
-    sym c.letter_at-letter.ensures ∙ c.in-66.is,
-  ),
-)
-
-pub eval-choose-requires : goal.eval-choose-requires
-eval-choose-requires t c = (
-  omega (
-    arith,
-    left_falls c.args.tally.now
-        (some_left c.runs_out.ensures.value c.if-runs_out.false)
-        c.runs_out.ensures.tally_after,
-  ),
-  (
-    pre_entered (some_left c.runs_out.ensures.value c.if-runs_out.false)
-        c.runs_out.ensures.tally_after c.requires,
-    sym c.letter_at-letter.ensures ∙ c.in-74.is,
-  ),
-)
-
-pub eval-call-requires : goal.eval-call-requires
-eval-call-requires t c = (
-  omega (
-    arith,
-    left_falls c.args.tally.now
-        (some_left c.runs_out.ensures.value c.if-runs_out.false)
-        c.runs_out.ensures.tally_after,
-  ),
-  (
-    pre_entered (some_left c.runs_out.ensures.value c.if-runs_out.false)
-        c.runs_out.ensures.tally_after c.requires,
-    sym c.letter_at-letter.ensures ∙ c.in-81.is,
-  ),
-)
-
-pub eval-set-requires : goal.eval-set-requires
-eval-set-requires t c = (
-  omega (
-    arith,
-    left_falls c.args.tally.now
-        (some_left c.runs_out.ensures.value c.if-runs_out.false)
-        c.runs_out.ensures.tally_after,
-  ),
-  (
-    pre_entered (some_left c.runs_out.ensures.value c.if-runs_out.false)
-        c.runs_out.ensures.tally_after c.requires,
-    sym c.letter_at-letter.ensures ∙ c.in-85.is,
-  ),
-)
 
 pub eval-one_child-requires : goal.eval-one_child-requires
 eval-one_child-requires t c = (
@@ -575,36 +311,21 @@ eval-one_child-requires t c = (
   ),
 )
 
-pub eval-shape_of-store-in-66 : goal.eval-shape_of-store-in-66
-eval-shape_of-store-in-66 t c = c.block.auto.store
-
 pub eval-returns-in-66 : goal.eval-returns-in-66
 eval-returns-in-66 t c = eval_entered (some_left c.runs_out.ensures.value c.if-runs_out.false)
     c.runs_out.ensures.tally_after c.block.ensures
-
-pub eval-shape_of-store-in-74 : goal.eval-shape_of-store-in-74
-eval-shape_of-store-in-74 t c = c.choose.auto.store
 
 pub eval-returns-in-74 : goal.eval-returns-in-74
 eval-returns-in-74 t c = eval_entered (some_left c.runs_out.ensures.value c.if-runs_out.false)
     c.runs_out.ensures.tally_after c.choose.ensures
 
-pub eval-shape_of-store-in-81 : goal.eval-shape_of-store-in-81
-eval-shape_of-store-in-81 t c = c.call.auto.store
-
 pub eval-returns-in-81 : goal.eval-returns-in-81
 eval-returns-in-81 t c = eval_entered (some_left c.runs_out.ensures.value c.if-runs_out.false)
     c.runs_out.ensures.tally_after c.call.ensures
 
-pub eval-shape_of-store-in-85 : goal.eval-shape_of-store-in-85
-eval-shape_of-store-in-85 t c = c.set.auto.store
-
 pub eval-returns-in-85 : goal.eval-returns-in-85
 eval-returns-in-85 t c = eval_entered (some_left c.runs_out.ensures.value c.if-runs_out.false)
     c.runs_out.ensures.tally_after c.set.ensures
-
-pub eval-shape_of-store-in_default : goal.eval-shape_of-store-in_default
-eval-shape_of-store-in_default t c = c.one_child.auto.store
 
 pub eval-returns-in_default : goal.eval-returns-in_default
 eval-returns-in_default t c = eval_entered (some_left c.runs_out.ensures.value c.if-runs_out.false)
@@ -612,50 +333,37 @@ eval-returns-in_default t c = eval_entered (some_left c.runs_out.ensures.value c
 
 -- `items`
 
-pub items-loop-i-init : goal.items-loop-i-init
-items-loop-i-init t c = items_start c.requires (omega arith) (outcome_value 0 (omega arith) ∙ ap Gave meaning_null)
+pub items-loop-init : goal.items-loop-init
+items-loop-init t c = items_start c.requires (omega arith) (outcome_value 0 (omega arith) ∙ ap Gave meaning_null)
 
 pub items-eval-r-requires : goal.items-eval-r-requires
 items-eval-r-requires t c = (
-  omega (arith, c.loop-i.invariant.falls),
-  list_first (items_head c.loop-i.invariant c.loop-i-test.true),
+  omega (arith, c.loop.invariant.falls),
+  list_first (items_head c.loop.invariant c.loop-test.true),
 )
 
-pub items-shape_of-store-then-r-ge-STUCK : goal.items-shape_of-store-then-r-ge-STUCK
-items-shape_of-store-then-r-ge-STUCK t c = c.eval-r.auto.store
-    ∙ c.loop-i.invariant.long_store
-
 pub items-returns-then-r-ge-STUCK : goal.items-returns-then-r-ge-STUCK
-items-returns-then-r-ge-STUCK t c = items_broken c.loop-i.invariant c.loop-i-test.true
+items-returns-then-r-ge-STUCK t c = items_broken c.loop.invariant c.loop-test.true
     c.eval-r.ensures refl
     (not_gave c.eval-r.result c.if-r-ge-STUCK.true)
 
 pub items-offset_bounds-program-next : goal.items-offset_bounds-program-next
-items-offset_bounds-program-next t c = omega (arith, (items_head c.loop-i.invariant c.loop-i-test.true).in_ends)
+items-offset_bounds-program-next t c = omega (arith, (items_head c.loop.invariant c.loop-test.true).in_ends)
 
 pub items-bounds-program-next : goal.items-bounds-program-next
-items-bounds-program-next t c = omega (arith, (items_head c.loop-i.invariant c.loop-i-test.true).in_ends)
+items-bounds-program-next t c = omega (arith, (items_head c.loop.invariant c.loop-test.true).in_ends)
 
-pub items-loop-i-preserved : goal.items-loop-i-preserved
-items-loop-i-preserved t c = items_next c.loop-i.invariant c.loop-i-test.true c.eval-r.ensures
+pub items-loop-preserved : goal.items-loop-preserved
+items-loop-preserved t c = items_next c.loop.invariant c.loop-test.true c.eval-r.ensures
     (outcome_value c.eval-r.result (omega (arith, c.if-r-ge-STUCK.false)))
 
-pub items-shape_of-store : goal.items-shape_of-store
-items-shape_of-store t c = c.loop-i.invariant.long_store
-
 pub items-returns : goal.items-returns
-items-returns t c = items_ended c.loop-i.invariant refl c.loop-i-test.false
+items-returns t c = items_ended c.loop.invariant refl c.loop-test.false
 
 -- `one_child`
 
-pub one_child-overflow_add-at : goal.one_child-overflow_add-at
-one_child-overflow_add-at t c = omega (arith, in_rows c.requires.pre_entered)
-
 pub one_child-eval-n-requires : goal.one_child-eval-n-requires
 one_child-eval-n-requires t c = (omega arith, one_pre c.requires.pre_entered c.requires.at_value)
-
-pub one_child-shape_of-store-then-n-ge-STUCK : goal.one_child-shape_of-store-then-n-ge-STUCK
-one_child-shape_of-store-then-n-ge-STUCK t c = c.eval-n.auto.store
 
 pub one_child-returns-then-n-ge-STUCK : goal.one_child-returns-then-n-ge-STUCK
 one_child-returns-then-n-ge-STUCK t c = one_fail c.args.at
@@ -667,9 +375,6 @@ one_child-apply-requires t c = pre_apply c.eval-n.result c.requires.pre_entered 
     (outcome_value c.eval-n.result c.if-n-ge-STUCK.false)
     c.if-n-ge-STUCK.false
 
-pub one_child-shape_of-store : goal.one_child-shape_of-store
-one_child-shape_of-store t c = c.eval-n.auto.store
-
 pub one_child-returns : goal.one_child-returns
 one_child-returns t c = one_done c.args.at
     c.requires.at_value
@@ -680,25 +385,13 @@ one_child-returns t c = one_done c.args.at
 
 -- `set`
 
-pub set-overflow_add-at : goal.set-overflow_add-at
-set-overflow_add-at t c = omega (arith, (set_apart c.requires.pre_entered c.requires.at_value).row)
-
 pub set-eval-n-requires : goal.set-eval-n-requires
 set-eval-n-requires t c = (omega arith, set_first (set_apart c.requires.pre_entered c.requires.at_value))
-
-pub set-shape_of-store-then-n-ge-STUCK : goal.set-shape_of-store-then-n-ge-STUCK
-set-shape_of-store-then-n-ge-STUCK t c = c.eval-n.auto.store
 
 pub set-returns-then-n-ge-STUCK : goal.set-returns-then-n-ge-STUCK
 set-returns-then-n-ge-STUCK t c = set_fail c.args.at
     c.requires.at_value c.eval-n.ensures
     (not_gave c.eval-n.result c.if-n-ge-STUCK.true)
-
-pub set-overflow_add-next : goal.set-overflow_add-next
-set-overflow_add-next t c = omega (arith, (set_apart c.requires.pre_entered c.requires.at_value).in_ends)
-
-pub set-offset_bounds-program-at : goal.set-offset_bounds-program-at
-set-offset_bounds-program-at t c = omega (arith, (set_apart c.requires.pre_entered c.requires.at_value).in_ends)
 
 pub set-bounds-program-at : goal.set-bounds-program-at
 set-bounds-program-at t c = omega (arith, (set_apart c.requires.pre_entered c.requires.at_value).in_ends)
@@ -713,10 +406,6 @@ set-eval-n2-requires t c = (
   set_second (set_apart c.requires.pre_entered c.requires.at_value) c.eval-n.ensures,
 )
 
-pub set-shape_of-store-then-n2-ge-STUCK : goal.set-shape_of-store-then-n2-ge-STUCK
-set-shape_of-store-then-n2-ge-STUCK t c = c.eval-n2.auto.store
-    ∙ c.eval-n.auto.store
-
 pub set-returns-then-n2-ge-STUCK : goal.set-returns-then-n2-ge-STUCK
 set-returns-then-n2-ge-STUCK t c = set_fail_second c.args.at
     c.requires.at_value
@@ -725,9 +414,6 @@ set-returns-then-n2-ge-STUCK t c = set_fail_second c.args.at
     c.if-n-ge-STUCK.false)
     c.eval-n2.ensures
     (not_gave c.eval-n2.result c.if-n2-ge-STUCK.true)
-
-pub set-first-requires : goal.set-first-requires
-set-first-requires t c = omega (arith, (set_apart c.requires.pre_entered c.requires.at_value).row)
 
 pub set-save-requires : goal.set-save-requires
 set-save-requires t c = let x = set_apart c.requires.pre_entered c.requires.at_value in record {
@@ -738,11 +424,6 @@ set-save-requires t c = let x = set_apart c.requires.pre_entered c.requires.at_v
         (kept_of (set_second x c.eval-n.ensures) c.eval-n2.ensures).small,
   );
 }
-
-pub set-shape_of-store : goal.set-shape_of-store
-set-shape_of-store t c = c.save.auto.store
-    ∙ (c.eval-n2.auto.store
-    ∙ c.eval-n.auto.store)
 
 pub set-returns : goal.set-returns
 set-returns t c = set_done c.args.at

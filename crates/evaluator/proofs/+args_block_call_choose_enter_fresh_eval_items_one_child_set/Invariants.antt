@@ -41,9 +41,9 @@ invariant-args-loop-slot l =
     (answer (Gave nothing) l.initial.tally) l.store l.slots (answered l.r l.tally) l.slot l.next
     (l.slot - l.place.top)
 
-abbrev pub invariant-items-loop-i : goal.invariant-items-loop-i
-invariant-items-loop-i l =
+abbrev pub invariant-items-loop : goal.invariant-items-loop
+invariant-items-loop l =
     ItemsLoop l.program.rows.now l.program.ends.now l.program.tables.now l.program.above.now
     l.program.methods.now l.initial.store l.initial.slots l.at
     l.place l.n
-    (answer (Gave nothing) l.initial.tally) l.store l.slots (answered l.r l.tally) l.next l.i
+    (answer (Gave nothing) l.initial.tally) l.store l.slots (answered l.r l.tally) l.next l.counter

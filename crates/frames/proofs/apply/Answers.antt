@@ -1,15 +1,9 @@
 use mathlib.Core.Path.{sym, ◌∙◌}
-use Rattle.frames.proofs.Leaves.{apply_row, apply_slots, pre_load, pre_cast, apply_rest, apply_test}
+use Rattle.frames.proofs.Leaves.{pre_load, pre_cast, apply_rest, apply_test}
 use Rattle.frames.proofs.Leaves.{apply_get, apply_cast, apply_assign}
 use Rattle.objects.specs.Values.{outcome}
 use native.Mathlib.Omega.{arith}
 use Rattle.frames.proofs.apply.Goals as goal
-
-pub letter_at-requires : goal.letter_at-requires
-letter_at-requires c = omega (arith, apply_row c.requires)
-
-pub first-a-requires : goal.first-a-requires
-first-a-requires c = omega (arith, apply_row c.requires)
 
 pub load-requires : goal.load-requires
 load-requires c = let p = pre_load c.requires (sym c.letter_at.ensures ∙ c.in-71.is) in
@@ -20,9 +14,6 @@ cast_object-requires c = rw c.first-a.ensures (record {
   pre_cast = pre_cast c.requires (sym c.letter_at.ensures ∙ c.in-75.is);
   word = c.requires.is_word;
 })
-
-pub write_slot-requires : goal.write_slot-requires
-write_slot-requires c = (apply_slots c.requires, c.requires.is_word)
 
 pub returns-in-90 : goal.returns-in-90
 returns-in-90 c = apply_test (sym c.letter_at.ensures ∙ c.in-90.is)
@@ -37,9 +28,6 @@ pub returns-in-75 : goal.returns-in-75
 returns-in-75 c = apply_cast (outcome c.cast_object.result)
     (sym c.letter_at.ensures ∙ c.in-75.is)
     (rw c.first-a.ensures at c.cast_object.ensures)
-
-pub shape_of-slots : goal.shape_of-slots
-shape_of-slots c = c.write_slot.auto.slots
 
 pub returns-in_default : goal.returns-in_default
 returns-in_default c = apply_assign (apply_rest c.requires (λ e. omega arith) (λ e. omega arith) (λ e. omega arith))

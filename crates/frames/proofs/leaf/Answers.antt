@@ -1,33 +1,13 @@
 use mathlib.Core.Path.{sym, ◌∙◌}
-use Rattle.frames.proofs.Leaves.{leaf_row, leaf_slots, leaf_true, leaf_false, leaf_null, leaf_slot}
-use Rattle.frames.proofs.Leaves.{pre_new, leaf_new, leaf_rest}
+use Rattle.frames.proofs.Leaves.{leaf_true, leaf_false, leaf_null, leaf_slot}
+use Rattle.frames.proofs.Leaves.{pre_new, leaf_new}
 use Rattle.objects.specs.Values.{outcome}
-use native.Mathlib.Omega.{arith}
 use Rattle.frames.proofs.leaf.Goals as goal
-
-pub letter_at-requires : goal.letter_at-requires
-letter_at-requires c = omega (arith, leaf_row c.requires.pre_leaf)
-
-pub first-requires : goal.first-requires
-first-requires c = omega (arith, leaf_row c.requires.pre_leaf)
-
-pub read_slot-requires : goal.read_slot-requires
-read_slot-requires c = leaf_slots c.requires.pre_leaf
-
-pub first-requires-in-87 : goal.first-requires-in-87
-first-requires-in-87 c = omega (arith, leaf_row c.requires.pre_leaf)
 
 pub new_object-requires : goal.new_object-requires
 new_object-requires c = rw c.first-in-87.ensures
     (pre_new c.requires.pre_leaf
     (sym c.letter_at.ensures ∙ c.in-87.is))
-
-pub reclassify-requires : goal.reclassify-requires
-reclassify-requires c = record {
-  pre_leaf = c.requires.pre_leaf;
-  at_value = leaf_rest c.requires.pre_leaf c.requires.at_value
-      (λ e. omega arith) (λ e. omega arith) (λ e. omega arith) (λ e. omega arith) (λ e. omega arith);
-}
 
 pub returns-in-84 : goal.returns-in-84
 returns-in-84 c = leaf_true (sym c.letter_at.ensures ∙ c.in-84.is)

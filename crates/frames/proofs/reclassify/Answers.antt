@@ -1,30 +1,17 @@
-use Rattle.frames.proofs.Leaves.{leaf_row, leaf_slots, pre_change, change_missing, change_done}
+use Rattle.frames.proofs.Leaves.{pre_change, change_missing, change_done}
 use Rattle.objects.proofs.Values.{not_gave, outcome_value, word_of_outcome}
 use Rattle.objects.specs.Values.{outcome, meaning}
-use native.Mathlib.Omega.{arith}
 use Rattle.frames.proofs.reclassify.Goals as goal
-
-pub first-requires : goal.first-requires
-first-requires c = omega (arith, leaf_row c.requires.pre_leaf)
-
-pub read_slot-o-requires : goal.read_slot-o-requires
-read_slot-o-requires c = leaf_slots c.requires.pre_leaf
 
 pub returns-then-o-ge-STUCK : goal.returns-then-o-ge-STUCK
 returns-then-o-ge-STUCK c = change_missing (outcome c.read_slot-o.result) c.requires.at_value
     (rw c.first.ensures at c.read_slot-o.ensures)
     (not_gave c.read_slot-o.result c.if-o-ge-STUCK.true)
 
-pub second-requires : goal.second-requires
-second-requires c = omega (arith, leaf_row c.requires.pre_leaf)
-
 pub change_class-requires : goal.change_class-requires
 change_class-requires c = rw c.second.ensures (pre_change c.read_slot-o.result c.requires.pre_leaf c.requires.at_value
     (word_of_outcome c.read_slot-o.result c.if-o-ge-STUCK.false
     c.read_slot-o.ensures.small))
-
-pub shape_of-store : goal.shape_of-store
-shape_of-store c = c.change_class.auto.store
 
 pub returns : goal.returns
 returns c = change_done (outcome c.read_slot-o.result) (meaning c.read_slot-o.result)

@@ -1,13 +1,9 @@
-use native.Mathlib.Omega.{arith}
-use Rattle.machine.proofs.Checked.{some_start, start_low, pre_start, checked_done}
+use Rattle.machine.proofs.Checked.{some_start, pre_start, checked_done}
 use Rattle.frames.proofs.Frames.{zeros}
 use Rattle.machine.proofs.run_checked.Goals as goal
 
 pub find_letter-start-requires : goal.find_letter-start-requires
 find_letter-start-requires c = some_start c.requires
-
-pub overflow_add-start : goal.overflow_add-start
-overflow_add-start c = omega (arith, start_low c.requires c.find_letter-start.ensures)
 
 pub run_start-requires : goal.run_start-requires
 run_start-requires c = pre_start c.requires c.find_letter-start.ensures zeros

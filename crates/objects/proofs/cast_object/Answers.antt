@@ -1,21 +1,8 @@
 use mathlib.Core.Path.{sym, ◌∙◌}
-use native.Mathlib.Omega.{arith}
 use Rattle.objects.specs.Values.{meaning}
 use Rattle.objects.proofs.Values.{reached_null, reached_nothing}
-use Rattle.objects.proofs.Acts.{cast_room, cast_below, cast_of_null, cast_nothing, cast_not_below}
-use Rattle.objects.proofs.Holding.{few_classes}
+use Rattle.objects.proofs.Acts.{cast_below, cast_of_null, cast_nothing, cast_not_below}
 use Rattle.objects.proofs.cast_object.Goals as goal
-
-pub bounds-store-o : goal.bounds-store-o
-bounds-store-o c = omega (
-  arith,
-  (cast_room c.args.w c.args.tally.now c.in-At.ensures c.requires.pre_cast).0,
-)
-
-pub is_below-requires : goal.is_below-requires
-is_below-requires c =
-    let r = cast_room c.args.w c.args.tally.now c.in-At.ensures c.requires.pre_cast in
-    (r.2, omega (arith, c.requires.pre_cast.declared, few_classes c.requires.pre_cast.holding))
 
 pub returns-in-Null : goal.returns-in-Null
 returns-in-Null c = cast_of_null c.args.w (reached_null _ (meaning c.args.w) c.in-Null.ensures)

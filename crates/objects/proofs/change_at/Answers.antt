@@ -2,33 +2,6 @@ use native.Mathlib.Omega.{arith}
 use Rattle.objects.proofs.Changes.{reached_spots, fill_at, few_at, made_at, same_word}
 use Rattle.objects.proofs.change_at.Goals as goal
 
-pub offset_bounds-store-o : goal.offset_bounds-store-o
-offset_bounds-store-o c = omega (
-  arith,
-  reached_spots c.args.w
-      c.args.tally.now c.requires.w_value
-      c.requires.pre_change,
-  c.well_formed.1.1.0,
-)
-
-pub bounds-store-o : goal.bounds-store-o
-bounds-store-o c = omega (
-  arith,
-  reached_spots c.args.w
-      c.args.tally.now
-      c.requires.w_value
-      c.requires.pre_change,
-)
-
-pub class_entry-root-requires : goal.class_entry-root-requires
-class_entry-root-requires c = omega (
-  arith,
-  reached_spots c.args.w
-      c.args.tally.now
-      c.requires.w_value
-      c.requires.pre_change,
-)
-
 pub class_entry-kept-requires : goal.class_entry-kept-requires
 class_entry-kept-requires c = omega (
   arith,
@@ -57,24 +30,6 @@ fill-requires c = rw (
     c.args.tally.now
     c.requires.w_value
     c.requires.pre_change)
-
-pub offset_bounds-store-o-2 : goal.offset_bounds-store-o-2
-offset_bounds-store-o-2 c = omega (
-  arith,
-  reached_spots c.args.w c.args.tally.now
-      c.requires.w_value
-      c.requires.pre_change,
-  c.well_formed.1.1.0,
-)
-
-pub bounds-store-o-2 : goal.bounds-store-o-2
-bounds-store-o-2 c = omega (
-  arith,
-  reached_spots c.args.w c.args.tally.now
-      c.requires.w_value
-      c.requires.pre_change,
-  c.fill.ensures.long,
-)
 
 pub returns : goal.returns
 returns c = made_at c.args.w

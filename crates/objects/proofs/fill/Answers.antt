@@ -2,13 +2,10 @@ use mathlib.Core.Path.{◌≡◌}
 use Prim.Native.Nat.{ℕ, ◌+◌, ◌-◌, ◌*◌, ◌≤◌}
 use native.Mathlib.Omega.{arith}
 use lib.ListN.{length, length-take, length-drop, get_or}
-use Rattle.objects.proofs.Values.{written_none, written_more, written_then, written_same, first_unused}
+use Rattle.objects.proofs.Values.{written_more, written_then, written_same, first_unused}
 use Rattle.objects.proofs.Fresh.{first_written, first_is_word}
 use Rattle.objects.specs.Acts.{first_of, field_type_in}
 use Rattle.objects.proofs.fill.Goals as goal
-
-pub loop-i-init : goal.loop-i-init
-loop-i-init c = let e : c.args.from - c.args.from ≡ 0 = omega arith in rw e (written_none _ _ _)
 
 pub write_value-requires : goal.write_value-requires
 write_value-requires c = (

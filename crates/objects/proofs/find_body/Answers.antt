@@ -1,11 +1,7 @@
-use native.Mathlib.Omega.{arith}
 use Rattle.objects.specs.Values.{meaning}
 use Rattle.objects.proofs.Values.{reached_null, reached_nothing}
 use Rattle.objects.proofs.Finding.{find_room, find_null, find_nothing, find_at}
 use Rattle.objects.proofs.find_body.Goals as goal
-
-pub bounds-store-o : goal.bounds-store-o
-bounds-store-o c = omega (arith, (find_room c.args.w c.requires c.in-At.ensures).0)
 
 pub find_in-requires : goal.find_in-requires
 find_in-requires c = (find_room c.args.w c.requires c.in-At.ensures).1

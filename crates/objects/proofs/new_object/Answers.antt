@@ -1,7 +1,5 @@
 use Rattle.language.specs.Limits.{object_width}
 use Prim.Native.Nat.{◌*◌}
-use native.Mathlib.Omega.{arith}
-use lib.ListN.{length-set}
 use Rattle.objects.proofs.Fresh.{new_fill, new_full, full_count, full_store, new_told}
 use Rattle.objects.proofs.new_object.Goals as goal
 
@@ -17,15 +15,6 @@ returns-then-store-o c = new_full c.args.program.now.rows.now c.args.program.now
 
 pub fill-requires : goal.fill-requires
 fill-requires c = new_fill c.requires (c.args.tally.now.made * object_width) c.if-store-o.false
-
-pub offset_bounds-store-o : goal.offset_bounds-store-o
-offset_bounds-store-o c = omega (arith, c.if-made-ge-MOST_OBJECTS.false)
-
-pub bounds-store-o : goal.bounds-store-o
-bounds-store-o c = omega (arith, c.if-store-o.false, c.fill.ensures.long)
-
-pub shape_of-store : goal.shape_of-store
-shape_of-store c = simp length-set c.fill.ensures.long
 
 pub returns : goal.returns
 returns c = rw c.from.ensures
