@@ -1,7 +1,6 @@
 -- What the judgement of all windows says of the sums, and with the report of the answer.
 use mathlib.Core.Path.{◌≡◌, refl, sym, ap, ◌∙◌}
 use mathlib.Core.Bool.{Bool, true, false}
-use mathlib.Core.Logic.{◌≢◌}
 use mathlib.Core.Option.{Option, none, some}
 use mathlib.Core.List.{List, [], ◌∷◌, ◌++◌}
 use Prim.Native.Nat.{ℕ, zero, suc, ◌+◌, ◌≤◌, ◌<◌}
@@ -19,12 +18,14 @@ use Rattle.language.proofs.Filling.{held_fits, held_short}
 use Rattle.language.proofs.Booleans.{false≢}
 use Rattle.fleet.specs.Ranking.{Counted, add, plus, all_within, lines_of, ranked, sums_from, sums, report_of}
 use Rattle.fleet.specs.Ranking.{report_answer}
-use Rattle.fleet.specs.declared.Reported.TheVariants.{Done, Refused}
+use Rattle.std.specs.Prelude.{Option as Found, Some, None, Ok, Err}
+use Rattle.fleet.specs.Ranking.{fault}
 use Rattle.fleet.specs.LineLists.{in_models}
 use Rattle.sums.specs.Window.{in_window}
 use Rattle.sums.proofs.Windows.{all_same}
 use Rattle.counted.specs.Lines.{all_count, summing, summed}
-use Rattle.counted.specs.Scanning.{all_models, Fault, no_line, past_sum, Reached, window_sums}
+use Rattle.counted.specs.Scanning.{all_models, Modelled, modelled_nil, modelled_none, modelled_some}
+use Rattle.counted.specs.Scanning.{Fault, no_line, past_sum, Reached, window_sums}
 use Rattle.counted.proofs.Windows.{summing_before}
 use Rattle.ranking.specs.declared.Judged.{Judged}
 use Rattle.ranking.specs.Judging.{Measured, Judging}
@@ -49,7 +50,7 @@ drop_at [] i a e = absurd (Never e)
 drop_at (x ∷ l) zero a e = ap (λ z. z ∷ l) (inj e)
 drop_at (x ∷ l) (suc i) a e = drop_at l i a e
 
-module _ {number : ℕ} {ls : List (Option Counted)} {place found : ℕ}
+module _ {number : ℕ} {ls : List (Option Counted)} {place : ℕ} {found : Found ℕ}
     (r : Reached number ls (length ls) place found)
     (clean : all_within (summed (take place ls)) ≡ true) where
   passed : sums number ls ≡ sums_from number (1 + place) (summed (take place ls)) (drop place ls)
@@ -59,15 +60,15 @@ module _ {number : ℕ} {ls : List (Option Counted)} {place found : ℕ}
       (length-take-le place ls r.within))
 
   -- No line is refused.
-  pub sums_all : found ≡ 0 → (sums number ls ≡ accept (summed ls)) × (all_within (summed ls) ≡ true)
+  pub sums_all : found ≡ None → (sums number ls ≡ accept (summed ls)) × (all_within (summed ls) ≡ true)
   unfolding sums_from
   sums_all z = let p = r.end z in
       (passed ∙ rw (p, drop-length ls, take-length ls) refl, rw (take-length ls) at (rw p at clean))
 
   -- One is.
-  pub sums_refuse : found ≢ 0 → sums number ls ≡ refuse found (place + 1)
+  pub sums_refuse : (k : ℕ) → found ≡ Some k → sums number ls ≡ refuse k (place + 1)
   unfolding sums_from require
-  sums_refuse f = passed ∙ go found (r.fault f)
+  sums_refuse k f = passed ∙ go k (r.fault k f)
     where
       q : 1 + place ≡ place + 1
       q = omega arith
@@ -78,12 +79,6 @@ module _ {number : ℕ} {ls : List (Option Counted)} {place found : ℕ}
       go k (past_sum c e w) = rw (drop_at ls place (some c) e, w, q) refl
 
 -- The models of lines are numbers of 32 bits, so those of their sums are.
-pub data Modelled : List (Option Counted) → Type 0 where
-  modelled_nil : Modelled []
-  modelled_none : {ls : List (Option Counted)} → Modelled ls → Modelled (none ∷ ls)
-  modelled_some : {c : Counted} {ls : List (Option Counted)} → c.model < all_models → Modelled ls
-      → Modelled (some c ∷ ls)
-
 abbrev pub Small : Counted → Type 0
 Small c = c.model < all_models
 
@@ -122,13 +117,13 @@ all_windows {ls} m k = every (summed (take k ls)) (summing_small [] ls k m each_
 -- The answer and the bytes.
 module _ (number : ℕ) (ls : List (Option Counted)) (old : List ℕ) where
   pub refused_report : (n k : ℕ) → sums number ls ≡ refuse n k
-      → (Refused n k ≡ report_answer (report_of number ls) (length old))
+      → (Err (fault n k) ≡ report_answer (report_of number ls) (length old))
       × (old ≡ buffer (report_of number ls) old)
   unfolding report_of bind_checked
   refused_report n k e = rw e (refl, refl)
 
   pub short_report : (ds : List Counted) → sums number ls ≡ accept ds → length old < length (lines_of ds)
-      → (Refused 13 0 ≡ report_answer (report_of number ls) (length old))
+      → (Err (fault 13 0) ≡ report_answer (report_of number ls) (length old))
       × (old ≡ buffer (report_of number ls) old)
   unfolding report_of bind_checked
   short_report ds e l =
@@ -137,34 +132,34 @@ module _ (number : ℕ) (ls : List (Option Counted)) (old : List ℕ) where
   pub whole_report : (ds : List Counted) (new : List ℕ) (r : ℕ) → sums number ls ≡ accept ds
       → length (lines_of ds) ≤ length old → r ≡ length (lines_of ds)
       → new ≡ lines_of (ranked ds) ++ drop r old
-      → (Done r ≡ report_answer (report_of number ls) (length old)) × (new ≡ buffer (report_of number ls) old)
+      → (Ok r ≡ report_answer (report_of number ls) (length old)) × (new ≡ buffer (report_of number ls) old)
   unfolding report_of bind_checked
   whole_report ds new r e l q n = let z = lines_ranked ds in
       rw (e, held_fits (length old) (lines_of (ranked ds)) (omega (arith, l, z)), z)
-      (ap Done q, n ∙ rw q refl)
+      (ap Ok q, n ∙ rw q refl)
 
 -- What the judgement of all models says.
 module _ {number : ℕ} {ls : List (Option Counted)} {bytes : ℕ} {j : Judged} (m : Modelled ls)
     (h : Judging number ls bytes all_models j) where
-  judged : Reached number ls (length ls) j.place j.number
+  judged : Reached number ls (length ls) j.place j.refusal
   judged = record { within = h.within; count = h.count (omega arith); end = h.end; fault = h.fault }
 
   clean_all : all_within (summed (take j.place ls)) ≡ true
   clean_all = rw (all_windows m j.place) at h.clean
 
-  pub judged_refuse : j.number ≢ 0 → sums number ls ≡ refuse j.number (j.place + 1)
-  judged_refuse f = sums_refuse judged clean_all f
+  pub judged_refuse : (k : ℕ) → j.refusal ≡ Some k → sums number ls ≡ refuse k (j.place + 1)
+  judged_refuse k f = sums_refuse judged clean_all k f
 
-  pub judged_sums : j.number ≡ 0
+  pub judged_sums : j.refusal ≡ None
       → (sums number ls ≡ accept (summed ls)) × ((all_count ls ≡ true) × (all_within (summed ls) ≡ true))
   judged_sums z = let a = sums_all judged clean_all z in
       (a.0, (rw (take-length ls) at (rw (h.end z) at judged.count), a.1))
 
-  measured : j.number ≡ 0 → Measured bytes j.room (summed ls)
+  measured : j.refusal ≡ None → Measured bytes j.room (summed ls)
   measured z = rw (all_windows m (length ls) ∙ ap summed (take-length ls)) at (h.measured z)
 
-  pub judged_fits : j.number ≡ 0 → j.room.fits ≡ true → length (lines_of (summed ls)) ≤ bytes
-  judged_fits z f = omega (arith, (measured z).fits f)
+  pub judged_fits : j.refusal ≡ None → (left : ℕ) → j.room ≡ Some left → length (lines_of (summed ls)) ≤ bytes
+  judged_fits z left f = let m = rw f at (measured z) in omega arith
 
-  pub judged_over : j.number ≡ 0 → j.room.fits ≡ false → bytes < length (lines_of (summed ls))
-  judged_over z f = (measured z).over f
+  pub judged_over : j.refusal ≡ None → j.room ≡ None → bytes < length (lines_of (summed ls))
+  judged_over z f = rw f at (measured z)

@@ -1,7 +1,7 @@
 -- Windows of models one after another, and what their judgement says of all lines.
 use mathlib.Core.Path.{◌≡◌, refl, sym, ap, ◌∙◌}
 use mathlib.Core.Bool.{Bool, true, false, ◌&&◌, cond}
-use mathlib.Core.Logic.{◌≢◌, inl, inr}
+use mathlib.Core.Logic.{inl, inr}
 use mathlib.Core.Option.{Option}
 use mathlib.Core.List.{List, [], ◌∷◌, ◌++◌}
 use Prim.Native.Nat.{ℕ, ◌≤◌, ◌<◌}
@@ -9,7 +9,7 @@ use native.Mathlib.Omega.{arith}
 use borrow.Author.Tests.{le-leb, lt-leb, lt-ltb, le-ltb}
 use lib.ListN.{length, take, drop, take-append-drop}
 use lib.Seq.{take-take}
-use Rattle.language.proofs.Booleans.{false≢, and_inv}
+use Rattle.language.proofs.Booleans.{and_inv}
 use Rattle.language.proofs.Lines.{le_or_less}
 use Rattle.fleet.specs.Ranking.{Counted, is_within, all_within, lines_of}
 use Rattle.fleet.specs.Entries.{entries}
@@ -22,9 +22,19 @@ use Rattle.counted.specs.Lines.{summing, summed}
 use Rattle.counted.specs.Scanning.{all_models, window_sums}
 use Rattle.counted.proofs.Windows.{summing_append, summing_before}
 use Rattle.ranking.specs.declared.Judged.{Judged}
-use Rattle.ranking.specs.declared.Room.{Room}
+use Rattle.std.specs.Prelude.{Option as Found, Some, None}
+use Rattle.std.specs.Option.{is_some}
 use Rattle.ranking.specs.Judging.{Measured, Judging, JudgesNext}
 use Rattle.ranking.proofs.Measuring.{lines_permuted}
+
+-- What a test of an option tells.
+pub some_is : (o : Found ℕ) → is_some o ≡ true → (k : ℕ) × (o ≡ Some k)
+some_is (Some k) e = (k, refl)
+some_is None e = absurd (cc)
+
+pub none_is : (o : Found ℕ) → is_some o ≡ false → o ≡ None
+none_is (Some k) e = absurd (cc)
+none_is None e = refl
 
 -- Sums are within the largest together, and in any order.
 within_append : (xs ys : List Counted) → all_within xs ≡ true → all_within ys ≡ true
@@ -97,12 +107,10 @@ module _ (p : ℕ → Bool) (ls : List (Option Counted)) (k n : ℕ) (l : k ≤ 
       parts = ap summed (sym (take-append-drop k (take n ls)))
           ∙ rw (take-take k n ls l) (summing_append [] (take k ls) (drop k (take n ls)))
 
-measured_permuted : {bytes : ℕ} {room : Room} {xs ys : List Counted} → Permuted xs ys → Measured bytes room xs
+measured_permuted : (bytes : ℕ) (room : Found ℕ) {xs ys : List Counted} → Permuted xs ys → Measured bytes room xs
     → Measured bytes room ys
-measured_permuted p m = record {
-  fits = λ f. rw (sym (lines_permuted p)) (m.fits f);
-  over = λ f. rw (sym (lines_permuted p)) (m.over f);
-}
+measured_permuted bytes (Some left) p m = rw (sym (lines_permuted p)) m
+measured_permuted bytes None p m = rw (sym (lines_permuted p)) m
 
 module _ {number : ℕ} {ls : List (Option Counted)} {bytes low : ℕ} {j : Judged} {T : List ℕ} {s : Scan}
     (n : JudgesNext number ls bytes low j T s) where
@@ -114,42 +122,42 @@ module _ {number : ℕ} {ls : List (Option Counted)} {bytes low : ℕ} {j : Judg
       (clean_earlier (in_window 0 low) ls s.place j.place less n.judging.clean) n.clean
 
   -- A line of this window is refused.
-  pub judge_earlier : (r : Judged) → s.number ≢ 0 → r.place ≡ s.place → r.number ≡ s.number
+  pub judge_earlier : (r : Judged) (k : ℕ) → s.refusal ≡ Some k → r.place ≡ s.place → r.refusal ≡ s.refusal
       → Judging number ls bytes s.window.end r
-  judge_earlier r f p q = record {
+  judge_earlier r k f p q = record {
     within = omega (arith, p, less, n.judging.within);
     count = λ _. rw p n.reached.count;
-    end = λ z. absurd (f (sym q ∙ z));
-    fault = λ _. rw (p, q) (n.reached.fault f);
+    end = λ z. absurd (cc);
+    fault = λ m z. rw p (n.reached.fault m (sym q ∙ z));
     clean = rw p both;
-    measured = λ z. absurd (f (sym q ∙ z));
+    measured = λ z. absurd (cc);
   }
 
-  same : s.number ≡ 0 → s.place ≡ j.place
+  same : s.refusal ≡ None → s.place ≡ j.place
   same z = n.reached.end z
 
   -- None of this window, but one of another was.
-  pub judge_same : s.number ≡ 0 → j.number ≢ 0 → Judging number ls bytes s.window.end j
-  judge_same z f = record {
+  pub judge_same : (k : ℕ) → s.refusal ≡ None → j.refusal ≡ Some k → Judging number ls bytes s.window.end j
+  judge_same k z f = record {
     within = n.judging.within;
     count = λ _. rw (same z) at n.reached.count;
     end = n.judging.end;
     fault = n.judging.fault;
     clean = rw (sym (same z)) both;
-    measured = λ q. absurd (f q);
+    measured = λ q. absurd (cc);
   }
 
   -- None so far.
-  pub judge_more : (r : Judged) → s.number ≡ 0 → j.number ≡ 0 → r.place ≡ j.place → r.number ≡ 0
+  pub judge_more : (r : Judged) → s.refusal ≡ None → j.refusal ≡ None → r.place ≡ j.place → r.refusal ≡ None
       → Measured bytes r.room (window_sums 0 low ls (length ls) ++ entries T s.window.count)
       → Judging number ls bytes s.window.end r
   judge_more r z f p q m = let w = n.judging.end f in record {
     within = omega (arith, p, w);
     count = λ _. rw (p, sym (same z)) n.reached.count;
     end = λ _. p ∙ w;
-    fault = λ x. absurd (x q);
+    fault = λ k x. absurd (cc);
     clean = rw (p, sym (same z)) both;
-    measured = λ _. measured_permuted (windows_meet low s.window.end (omega (arith, n.wide))
+    measured = λ _. measured_permuted bytes r.room (windows_meet low s.window.end (omega (arith, n.wide))
         (summed (take (length ls) ls)))
         (rw (n.holds z, same z ∙ w) at m);
   }
@@ -163,18 +171,15 @@ window_none (d ∷ ds) =
 
 -- Before the first window.
 pub judge_none : (number : ℕ) (ls : List (Option Counted)) (bytes : ℕ) (j : Judged) → j.place ≡ length ls
-    → j.number ≡ 0 → j.room.fits ≡ true → j.room.left ≡ bytes → Judging number ls bytes 0 j
+    → j.refusal ≡ None → j.room ≡ Some bytes → Judging number ls bytes 0 j
 unfolding in_models all_within lines_of
-judge_none number ls bytes j p q f l = record {
+judge_none number ls bytes j p q f = record {
   within = omega (arith, p);
   count = λ z. absurd (omega (arith, z));
   end = λ _. p;
-  fault = λ x. absurd (x q);
+  fault = λ k x. absurd (cc);
   clean = rw (window_none (summed (take j.place ls))) refl;
-  measured = λ _. rw (window_none (summed (take (length ls) ls))) record {
-    fits = λ _. omega (arith, l);
-    over = λ x. false≢ (sym x ∙ f);
-  };
+  measured = λ _. rw (f, window_none (summed (take (length ls) ls))) (omega arith);
 }
 
 -- After the last window.

@@ -1,15 +1,14 @@
 -- How long lines are: of lists together, of the same lines in another order.
 use mathlib.Core.Path.{◌≡◌, refl, sym, ◌∙◌}
-use mathlib.Core.Bool.{true, false}
 use mathlib.Core.List.{List, [], ◌∷◌, ◌++◌}
 use Prim.Native.Nat.{ℕ, ◌+◌, ◌-◌, ◌≤◌, ◌<◌}
 use native.Mathlib.Omega.{arith}
 use lib.ListN.{length, length-append}
-use Rattle.language.proofs.Booleans.{false≢}
 use Rattle.fleet.specs.Ranking.{Counted, line_of, lines_of, ranked}
 use Rattle.fleet.specs.LineLists.{Permuted, permuted_nil, permuted_cons, permuted_swap, permuted_then}
 use Rattle.fleet.proofs.Sorting.{ranked_permuted}
-use Rattle.ranking.specs.declared.Room.{Room}
+use Rattle.std.specs.Prelude.{Option as Found, Some, None}
+use Rattle.std.specs.Option.{SomeIff}
 use Rattle.ranking.specs.Judging.{Measured}
 
 pub lines_append : (xs ys : List Counted)
@@ -39,23 +38,12 @@ pub lines_ranked : (ds : List Counted) → length (lines_of (ranked ds)) ≡ len
 lines_ranked ds = sym (lines_permuted (ranked_permuted ds))
 
 -- The room after more lines.
-module _ {bytes : ℕ} {room : Room} {ds : List Counted} (m : Measured bytes room ds) (es : List Counted) where
-  pub room_used : (r : Room) → room.fits ≡ true → length (lines_of es) ≤ room.left → r.fits ≡ true
-      → r.left ≡ room.left - length (lines_of es) → Measured bytes r (ds ++ es)
-  room_used r f l g q = record {
-    fits = λ _. rw (lines_append ds es) (omega (arith, m.fits f, l, q));
-    over = λ x. false≢ (sym x ∙ g);
-  }
+module _ (bytes : ℕ) (ds es : List Counted) (more : ℕ) (e : more ≡ length (lines_of es)) where
+  pub room_used : (left : ℕ) → Measured bytes (Some left) ds → (r : Found ℕ)
+      → SomeIff r (more ≤ left) (left - more) → Measured bytes r (ds ++ es)
+  room_used left m (Some k) s = rw (lines_append ds es) (omega (arith, s, e))
+  room_used left m None s = rw (lines_append ds es) (omega (arith, s, e))
 
-  pub room_short : (r : Room) → room.fits ≡ true → room.left < length (lines_of es) → r.fits ≡ false
-      → Measured bytes r (ds ++ es)
-  room_short r f l g = record {
-    fits = λ x. false≢ (sym g ∙ x);
-    over = λ _. rw (lines_append ds es) (omega (arith, m.fits f, l));
-  }
-
-  pub room_none : (r : Room) → room.fits ≡ false → r.fits ≡ false → Measured bytes r (ds ++ es)
-  room_none r f g = record {
-    fits = λ x. false≢ (sym g ∙ x);
-    over = λ _. rw (lines_append ds es) (omega (arith, m.over f));
-  }
+pub room_none : (bytes : ℕ) (ds es : List Counted) → bytes < length (lines_of ds)
+    → bytes < length (lines_of (ds ++ es))
+room_none bytes ds es m = rw (lines_append ds es) (omega arith)

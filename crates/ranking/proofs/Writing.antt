@@ -3,7 +3,7 @@ use mathlib.Core.Path.{◌≡◌, refl, sym, ap, ◌∙◌}
 use mathlib.Core.Bool.{Bool, true, false, cond}
 use mathlib.Core.Option.{Option, none, some}
 use mathlib.Core.List.{List, [], ◌∷◌, ◌++◌}
-use Prim.Native.Nat.{ℕ, zero, suc, ◌+◌, ◌≤◌, ◌<◌}
+use Prim.Native.Nat.{ℕ, ◌+◌, ◌≤◌, ◌<◌}
 use native.Mathlib.Omega.{arith}
 use lib.ListN.{length, length-append, take, drop}
 use lib.Seq.{take-length}
@@ -22,12 +22,13 @@ use Rattle.sums.specs.Window.{in_window, Open}
 use Rattle.sums.proofs.Adding.{sized_same}
 use Rattle.sums.proofs.Windows.{all_same, each_chosen, distinct_chosen, within_chosen}
 use Rattle.counted.specs.declared.Scan.{Scan}
-use Rattle.counted.specs.Lines.{all_count, summing, summed, lines_given}
-use Rattle.counted.specs.Scanning.{all_models, Reached, Scanned}
+use Rattle.std.specs.Prelude.{Option as Found, Some, None}
+use Rattle.counted.specs.Lines.{all_count, summing, summed}
+use Rattle.counted.specs.Scanning.{all_models, Modelled, Reached, Scanned}
 use Rattle.ranking.specs.Judging.{Lent, Standing, Ready, Whole, Written}
 use Rattle.ranking.proofs.Measuring.{lines_append, lines_permuted, lines_ranked}
 use Rattle.ranking.proofs.Judging.{windows_meet, window_none, clean_earlier}
-use Rattle.ranking.proofs.Ending.{Small, Modelled, summed_small, sums_all, sums_refuse, all_windows}
+use Rattle.ranking.proofs.Ending.{Small, summed_small, sums_all, sums_refuse, all_windows}
 use Rattle.ranking.proofs.Merging.{standing_written, past_same}
 
 -- The sums of lines are of different models.
@@ -144,12 +145,12 @@ ready c l o = let k = c.kept in record {
 -- Lines that all count, with sums that stay within the largest, are refused by no scan.
 module _ (number : ℕ) (ls : List (Option Counted)) (count : all_count ls ≡ true)
     (clean : all_within (summed ls) ≡ true) where
-  whole : Reached number ls (length ls) (length ls) 0
+  whole : Reached number ls (length ls) (length ls) None
   whole = record {
     within = omega arith;
     count = rw (take-length ls) count;
     end = λ _. refl;
-    fault = λ f. absurd (f refl);
+    fault = λ k f. absurd (cc);
   }
 
   earlier : (place : ℕ) → place ≤ length ls → all_within (summed (take place ls)) ≡ true
@@ -157,16 +158,16 @@ module _ (number : ℕ) (ls : List (Option Counted)) (count : all_count ls ≡ t
       l
       (rw (take-length ls, all_same (summed ls)) clean))
 
-  pub scan_counts : (place found : ℕ) → Reached number ls (length ls) place found → found ≡ 0
-  scan_counts place zero r = refl
-  scan_counts place (suc k) r = absurd (accept≢refuse (suc k) (place + 1)
-      (sym (sums_refuse r (earlier place r.within) (omega arith))
+  pub scan_counts : (place : ℕ) (found : Found ℕ) → Reached number ls (length ls) place found → found ≡ None
+  scan_counts place None r = refl
+  scan_counts place (Some k) r = absurd (accept≢refuse k (place + 1)
+      (sym (sums_refuse r (earlier place r.within) k refl)
       ∙ (sums_all whole (rw (take-length ls) clean) refl).0))
 
   module _ {low : ℕ} {T H N T' H' N' : List ℕ} {s : Scan}
       (c : Scanned number ls (length ls) low T H N T' H' N' s) where
-    none-refused : s.number ≡ 0
-    none-refused = scan_counts s.place s.number c.reached
+    none-refused : s.refusal ≡ None
+    none-refused = scan_counts s.place s.refusal c.reached
 
     pub scan_holds : entries T' s.window.count ≡ in_models (in_window low s.window.end) (summed ls)
     scan_holds = c.holds none-refused ∙ rw (c.reached.end none-refused, take-length ls) refl
@@ -192,12 +193,9 @@ pub record WritingAll (ls : List (Option Counted)) (R₀ T₀ H₀ N₀ R T H N 
     pub tables : (length T ≡ length T₀) × ((length H ≡ length H₀) × (length N ≡ length N₀))
 
 -- After the last window.
-pub written_all : {fleet : Bool} {ns P S old new : List ℕ} {low have : ℕ}
-    → Modelled (lines_given fleet ns P S)
-    → Writing (lines_given fleet ns P S) old new low have → all_models ≤ low
-    → Written fleet ns P S old new have
-written_all {fleet} {ns} {P} {S} {old} {new} {low} {have} m w l =
-    let ls = lines_given fleet ns P S in
+pub written_all : {ls : List (Option Counted)} {old new : List ℕ} {low have : ℕ} → Modelled ls
+    → Writing ls old new low have → all_models ≤ low → Written ls old new have
+written_all {ls} {old} {new} {low} {have} m w l =
     let q : low ≡ all_models = omega (arith, l, w.less) in
     let a : in_models (in_window 0 low) (summed ls) ≡ summed ls =
     ap (λ (n : ℕ). in_models (in_window 0 n) (summed ls)) q

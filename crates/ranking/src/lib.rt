@@ -3,84 +3,53 @@
 // before the first byte is written; then the lines of each window are merged into those that stand in the report.
 #![tactic(auto)]
 
-ghost use Rattle.std.specs.Prelude.{◌≡◌, ℕ, ◌+◌, ◌*◌, ◌/◌, ◌%◌, ◌≤◌, ◌<◌, List, ◌++◌, length, drop};
+ghost use Rattle.std.specs.Prelude.{◌≡◌, ℕ, ◌+◌, ◌*◌, ◌≤◌, ◌<◌, List, ◌++◌, length, drop};
 ghost use Rattle.std.proofs.Math.Option.{Option};
 ghost use Rattle.language.specs.Filling.{buffer};
 ghost use Rattle.fleet.specs.Ranking.{Counted, lines_of, ranked, report_of, report_answer};
 ghost use Rattle.fleet.specs.Entries.{entries};
 ghost use Rattle.fleet.specs.Fleet.{fleet_report, models_report};
 ghost use Rattle.fleet.specs.LineLists.{merged};
-ghost use Rattle.counted.specs.Lines.{lines_given, width_given, number_given};
+ghost use Rattle.counted.specs.Scanning.{Modelled};
 ghost use Rattle.ranking.specs.Judging.{Lent, Measured, Judging, JudgesNext, SomeNext, Standing};
-ghost use Rattle.ranking.specs.Judging.{Stands, Ready};
+ghost use Rattle.ranking.specs.Judging.{Stands, Ready, Serving};
 ghost use Rattle.ranking.specs.Judging.{SomeWhole, Whole, Fits, Written, Reports};
 ghost use Rattle.sums.specs.Window.{Sized};
 
-use counted::Scan;
-use fleet::Reported;
+use counted::{CountedLines, Lines, Scan};
+use fleet::{Fault, LINE_SIZE};
 use language::{LINE_REFUSAL, ROOM_REFUSAL};
+use scanning::{FleetLines, RUN_SIZE};
+use sums::ALL_MODELS;
 
-// Whether lines fit into a report, and how many bytes are left then.
-#[derive(Drop)]
-pub struct Room {
-    pub fits: bool,
-    pub left: usize,
-}
-
-// How many lines count, the refusal of the next one (0 where there is none), and whether the report fits.
-#[derive(Drop)]
+// How many lines count, the refusal of the next one, if it is refused, and how many bytes are left by the report, if it fits.
+#[derive(Clone, Copy)]
 pub struct Judged {
     pub place: usize,
-    pub number: u32,
-    pub room: Room,
+    pub refusal: Option<u32>,
+    pub room: Option<usize>,
 }
-
-// How many numbers a counted line has, and a run of a fleet.
-const LINE_SIZE: usize = 4;
-
-const RUN_SIZE: usize = 6;
 
 // How many lines pay for short tables alone. These have as many models, and as many chains of models.
 const FEW_LINES: usize = 256;
+
+const FEW_NUMBERS: usize = LINE_SIZE * FEW_LINES;
 
 // How many models a window has at most, and how many chains they are in.
 const WINDOW_MODELS: usize = 10000;
 
 const WINDOW_CHAINS: usize = 16384;
 
-// One more than the largest model.
-const ALL_MODELS: u64 = 4294967296;
+const WINDOW_NUMBERS: usize = LINE_SIZE * WINDOW_MODELS;
 
-// How many lines there are.
-fn count_lines(fleet: bool, numbers: usize) -> usize
-    ensures value { result ≡ numbers / width_given fleet }
-    ensures upper_bound { result ≤ 4611686018427387904 }
-{
-    if fleet {
-        return numbers / RUN_SIZE;
-    }
-    numbers / LINE_SIZE
-}
-
-// The room that the lines of the sums in a table leave.
-fn use_room(room: Room, table: &[u32], count: usize) -> Room
+// The room that the lines of the sums in a table leave, if they fit.
+fn use_room(room: Option<usize>, table: &[u32], count: usize) -> Option<usize>
     requires { (count * 4 ≤ length table.now) × (count ≤ 65535) }
     ensures { (bytes : ℕ) (ds : List Counted) → Measured bytes room ds
         → Measured bytes result (ds ++ entries table.now count) }
 {
-    if room.fits {
-        let more = reports::measure(table, count);
-        if more <= room.left {
-            return Room {
-                fits: true,
-                left: room.left - more,
-            };
-        }
-    }
-    Room {
-        fits: false,
-        left: 0,
-    }
+    let left = room?;
+    left.checked_sub(reports::measure(table, count))
 }
 
 // Judges one more window by its scan.
@@ -90,64 +59,46 @@ fn judge_window(j: Judged, s: Scan, table: &[u32]) -> Judged
         → JudgesNext number ls bytes low j table.now s
         → Judging number ls bytes s.window.end result }
 {
-    if s.number != 0 {
-        let none = Room {
-            fits: false,
-            left: 0,
-        };
+    if s.refusal.is_some() {
         return Judged {
             place: s.place,
-            number: s.number,
-            room: none,
+            refusal: s.refusal,
+            room: None,
         };
     }
-    if j.number != 0 {
+    if j.refusal.is_some() {
         return j;
     }
-    let w = s.window;
-    let room = j.room;
-    let left = use_room(room, table, w.count);
     Judged {
         place: j.place,
-        number: 0,
-        room: left,
+        refusal: None,
+        room: use_room(j.room, table, s.window.count),
     }
 }
 
 // Judges all lines by windows of models, and measures their report.
-fn judge_windows(
-    fleet: bool,
-    lines: &[u32],
-    programs: &[u32],
-    stores: &[u32],
+fn judge_windows<L: Lines>(
+    lines: &L,
     bytes: usize,
     table: &mut [u32],
     heads: &mut [u16],
     nexts: &mut [u16],
 ) -> Judged
     requires { Sized table.old heads.old nexts.old }
-    ensures judging { Judging (number_given fleet)
-        (lines_given fleet lines.now programs.now stores.now) bytes
-        4294967296 result }
+    ensures judging { Judging L.refusal (L.lines lines.now) bytes 4294967296 result }
     ensures place_bound { result.place ≤ 4611686018427387904 }
+    ensures modelled { Modelled (L.lines lines.now) }
 {
-    let all = Room {
-        fits: true,
-        left: bytes,
-    };
     let mut j = Judged {
-        place: count_lines(fleet, lines.len()),
-        number: 0,
-        room: all,
+        place: lines.count(),
+        refusal: None,
+        room: Some(bytes),
     };
     let mut low = 0;
     while low < ALL_MODELS {
-        let s = scanning::scan_lines(
-            fleet, lines, programs, stores, j.place, low, table, heads, nexts,
-        );
+        let s = lines.scan(j.place, low, table, heads, nexts);
         j = judge_window(j, s, table);
-        let w = s.window;
-        low = w.end;
+        low = s.window.end;
     }
     j
 }
@@ -180,178 +131,157 @@ fn report_window(
     table: &[u32],
     heads: &mut [u16],
     nexts: &mut [u16],
-) -> Reported
+) -> Result<usize, Fault>
     requires { SomeWhole table.now heads.old nexts.old s }
     ensures { (number : ℕ) (ls : List (Option Counted))
         → Whole number ls table.now heads.old nexts.old s
         → (result ≡ report_answer (report_of number ls) (length report.old))
         × (report.new ≡ buffer (report_of number ls) report.old) }
 {
-    if s.number != 0 {
-        return Reported::Refused(s.number, s.place + 1);
+    if let Some(number) = s.refusal {
+        return Err(Fault {
+            number,
+            place: s.place + 1,
+        });
     }
-    let w = s.window;
-    let count = w.count;
+    let count = s.window.count;
     if report.len() < reports::measure(table, count) {
-        return Reported::Refused(ROOM_REFUSAL, 0);
+        return Err(Fault {
+            number: ROOM_REFUSAL,
+            place: 0,
+        });
     }
-    Reported::Done(merge_window(report, 0, table, heads, nexts, count))
+    Ok(merge_window(report, 0, table, heads, nexts, count))
 }
 
 // Writes the lines of all windows, which are judged and fit.
-fn write_windows(
-    fleet: bool,
-    lines: &[u32],
-    programs: &[u32],
-    stores: &[u32],
+fn write_windows<L: Lines>(
+    lines: &L,
     report: &mut [u8],
     table: &mut [u32],
     heads: &mut [u16],
     nexts: &mut [u16],
 ) -> usize
     requires lent { Lent table.old heads.old nexts.old }
-    requires fits { Fits fleet lines.now programs.now stores.now (length report.old) }
-    ensures { Written fleet lines.now programs.now stores.now
-        report.old report.new result }
+    requires fits { Fits (L.lines lines.now) (length report.old) }
+    ensures { Written (L.lines lines.now) report.old report.new result }
 {
-    let n = count_lines(fleet, lines.len());
+    let n = lines.count();
     let mut low = 0;
     let mut have = 0;
     while low < ALL_MODELS {
-        let s = scanning::scan_lines(fleet, lines, programs, stores, n, low, table, heads, nexts);
-        let w = s.window;
-        let count = w.count;
-        have = merge_window(report, have, table, heads, nexts, count);
-        low = w.end;
+        let s = lines.scan(n, low, table, heads, nexts);
+        have = merge_window(report, have, table, heads, nexts, s.window.count);
+        low = s.window.end;
     }
     have
 }
 
 // The report of lines whose models take several windows.
-fn report_windows(
-    fleet: bool,
-    lines: &[u32],
-    programs: &[u32],
-    stores: &[u32],
+fn report_windows<L: Lines>(
+    lines: &L,
     report: &mut [u8],
     table: &mut [u32],
     heads: &mut [u16],
     nexts: &mut [u16],
-) -> Reported
+) -> Result<usize, Fault>
     requires { Lent table.old heads.old nexts.old }
-    ensures { Reports fleet lines.now programs.now stores.now
-        report.old report.new result }
+    ensures { Reports L.refusal (L.lines lines.now) report.old report.new result }
 {
-    let j = judge_windows(
-        fleet,
-        lines,
-        programs,
-        stores,
-        report.len(),
-        table,
-        heads,
-        nexts,
-    );
-    if j.number != 0 {
-        return Reported::Refused(j.number, j.place + 1);
+    let j = judge_windows(lines, report.len(), table, heads, nexts);
+    if let Some(number) = j.refusal {
+        return Err(Fault {
+            number,
+            place: j.place + 1,
+        });
     }
-    let room = j.room;
-    if room.fits {
-        let written = write_windows(fleet, lines, programs, stores, report, table, heads, nexts);
-        return Reported::Done(written);
+    if j.room.is_some() {
+        return Ok(write_windows(lines, report, table, heads, nexts));
     }
-    Reported::Refused(ROOM_REFUSAL, 0)
+    Err(Fault {
+        number: ROOM_REFUSAL,
+        place: 0,
+    })
 }
 
 // The report of lines, with tables that are lent. Once a window is summed, the chains' slices serve for the order.
-fn report_lines(
-    fleet: bool,
-    lines: &[u32],
-    programs: &[u32],
-    stores: &[u32],
+fn report_lines<L: Lines>(
+    lines: &L,
     report: &mut [u8],
     table: &mut [u32],
     heads: &mut [u16],
     nexts: &mut [u16],
-) -> Reported
+) -> Result<usize, Fault>
     requires { Lent table.old heads.old nexts.old }
-    ensures { Reports fleet lines.now programs.now stores.now
-        report.old report.new result }
+    ensures { Reports L.refusal (L.lines lines.now) report.old report.new result }
 {
-    let n = count_lines(fleet, lines.len());
-    let s = scanning::scan_lines(fleet, lines, programs, stores, n, 0, table, heads, nexts);
-    let w = s.window;
-    if w.end == ALL_MODELS {
+    let n = lines.count();
+    let s = lines.scan(n, 0, table, heads, nexts);
+    if s.window.end == ALL_MODELS {
         return report_window(s, report, table, heads, nexts);
     }
-    report_windows(fleet, lines, programs, stores, report, table, heads, nexts)
+    report_windows(lines, report, table, heads, nexts)
 }
 
-// The report of at most 256 lines.
-fn report_few(
-    fleet: bool,
-    lines: &[u32],
-    programs: &[u32],
-    stores: &[u32],
+// The report of lines, with tables for windows of so many models, in so many chains.
+fn report_in<L: Lines, const NUMBERS: usize, const CHAINS: usize, const MODELS: usize>(
+    lines: &L,
     report: &mut [u8],
-) -> Reported
-    ensures { Reports fleet lines.now programs.now stores.now
-        report.old report.new result }
+) -> Result<usize, Fault>
+    requires { Serving NUMBERS CHAINS MODELS }
+    ensures { Reports L.refusal (L.lines lines.now) report.old report.new result }
 {
-    let mut table = [0u32; LINE_SIZE * FEW_LINES];
-    let mut heads = [0u16; FEW_LINES];
-    let mut nexts = [0u16; FEW_LINES];
-    report_lines(
-        fleet, lines, programs, stores, report, &mut table, &mut heads, &mut nexts,
-    )
+    let mut table = [0u32; NUMBERS];
+    let mut heads = [0u16; CHAINS];
+    let mut nexts = [0u16; MODELS];
+    report_lines(lines, report, &mut table, &mut heads, &mut nexts)
 }
 
-// The report of any number of lines: 10,000 models to a window.
-fn report_many(
-    fleet: bool,
-    lines: &[u32],
-    programs: &[u32],
-    stores: &[u32],
-    report: &mut [u8],
-) -> Reported
-    ensures { Reports fleet lines.now programs.now stores.now
-        report.old report.new result }
+// The report of lines.
+fn report_any<L: Lines>(lines: &L, report: &mut [u8]) -> Result<usize, Fault>
+    ensures { Reports L.refusal (L.lines lines.now) report.old report.new result }
 {
-    let mut table = [0u32; LINE_SIZE * WINDOW_MODELS];
-    let mut heads = [0u16; WINDOW_CHAINS];
-    let mut nexts = [0u16; WINDOW_MODELS];
-    report_lines(
-        fleet, lines, programs, stores, report, &mut table, &mut heads, &mut nexts,
-    )
+    if lines.count() <= FEW_LINES {
+        return report_in::<L, FEW_NUMBERS, FEW_LINES, FEW_LINES>(lines, report);
+    }
+    report_in::<L, WINDOW_NUMBERS, WINDOW_CHAINS, WINDOW_MODELS>(lines, report)
 }
 
 // The report over counted lines, four numbers each: model, printed, spoiled, cents.
-pub fn rank_models(counts: &[u32], report: &mut [u8]) -> Reported
+pub fn rank_models(counts: &[u32], report: &mut [u8]) -> Result<usize, Fault>
     ensures value { result ≡ report_answer (models_report counts.now) (length report.old) }
     ensures report_after { report.new ≡ buffer (models_report counts.now) report.old }
 {
     if counts.len() % LINE_SIZE != 0 {
-        return Reported::Refused(LINE_REFUSAL, 0);
+        return Err(Fault {
+            number: LINE_REFUSAL,
+            place: 0,
+        });
     }
-    if counts.len() <= LINE_SIZE * FEW_LINES {
-        return report_few(false, counts, counts, counts, report);
-    }
-    report_many(false, counts, counts, counts, report)
+    report_any(&CountedLines { counts }, report)
 }
 
 // The report over a fleet of ended runs, six numbers each: model, rows, objects, printed, spoiled, cents.
-pub fn report_fleet(runs: &[u32], programs: &[u32], stores: &[u32], report: &mut [u8]) -> Reported
-    ensures value { result ≡ report_answer (fleet_report runs.now programs.now
-        stores.now)
+pub fn report_fleet(
+    runs: &[u32],
+    programs: &[u32],
+    stores: &[u32],
+    report: &mut [u8],
+) -> Result<usize, Fault>
+    ensures value { result ≡ report_answer (fleet_report runs.now programs.now stores.now)
         (length report.old) }
-    ensures report_after { report.new ≡ buffer (fleet_report runs.now programs.now
-        stores.now) report.old }
+    ensures report_after { report.new ≡ buffer (fleet_report runs.now programs.now stores.now) report.old }
 {
     if runs.len() % RUN_SIZE != 0 {
-        return Reported::Refused(LINE_REFUSAL, 0);
+        return Err(Fault {
+            number: LINE_REFUSAL,
+            place: 0,
+        });
     }
-    if runs.len() <= RUN_SIZE * FEW_LINES {
-        return report_few(true, runs, programs, stores, report);
-    }
-    report_many(true, runs, programs, stores, report)
+    let lines = FleetLines {
+        runs,
+        programs,
+        stores,
+    };
+    report_any(&lines, report)
 }

@@ -1,18 +1,10 @@
 -- `ranking::use_room` meets its contract. Assumes nothing.
-use mathlib.Core.Path.{refl, ap}
-use Prim.Native.Nat.{ℕ, ◌-◌}
-use native.Mathlib.Omega.{arith}
-use Rattle.ranking.proofs.Measuring.{room_used, room_short, room_none}
+use Rattle.ranking.proofs.Measuring.{room_used, room_none}
 use Rattle.ranking.proofs.use_room.Goals as goal
 
-pub returns-then-more-room : goal.returns-then-more-room
-returns-then-more-room c = λ bytes ds m. let l = c.measure-more.ensures in
-    room_used m _ _ c.if-room.true (omega (arith, c.if-more-room.true, l)) refl
-    (ap (λ (k : ℕ). c.args.room.left - k) l)
+pub returns-in_err-left : goal.returns-in_err-left
+returns-in_err-left c = λ bytes ds m. rw c.from_residual.ensures (room_none bytes ds _ (rw c.in_err-left.was at m))
 
-pub returns-else-more-room : goal.returns-else-more-room
-returns-else-more-room c = λ bytes ds m. let l = c.measure-more.ensures in
-    room_short m _ _ c.if-room.true (omega (arith, c.if-more-room.false, l)) refl
-
-pub returns-else-room : goal.returns-else-room
-returns-else-room c = λ bytes ds m. room_none m _ _ c.if-room.false refl
+pub returns : goal.returns
+returns c = λ bytes ds m. room_used bytes ds _ _ c.measure.ensures c.in_ok-left.left (rw c.in_ok-left.was at m) _
+    c.checked_sub.ensures
