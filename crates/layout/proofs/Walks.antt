@@ -1,27 +1,51 @@
 -- Laws of the lines of one letter that follow one another in a heading, and of the lines of a method. Assumes nothing.
-use mathlib.Core.Path.{◌≡◌, sym, ap, subst, ◌∙◌}
+use mathlib.Core.Path.{◌≡◌, ap, ◌∙◌}
+use mathlib.Core.Bool.{Bool, true, false, not, cond}
 use mathlib.Core.List.{List}
-use mathlib.Core.Logic.{⊎_elim}
-use Prim.Native.Nat.{ℕ, ◌+◌, ◌*◌, ◌≤◌, ◌<◌}
+use Prim.Native.Nat.{ℕ, zero, suc, ◌+◌, ◌-◌, ◌*◌, ◌/◌, ◌<◌}
 use native.Mathlib.Omega.{arith}
+use borrow.Author.Tests.{eq-eqb, ne_eqb, lt-ltb}
+use lib.Dec.{eqb, ltb}
 use lib.ListN.{length, get_or}
+use Rattle.std.specs.Prelude.{Option, Some, None}
+use Rattle.std.specs.List.{prefix_len, position_or_len, range_with_len}
+use Rattle.std.proofs.lemmas.List.FromFn.{length-range_with_len}
 use Rattle.language.specs.Limits.{of_check}
 use Rattle.language.specs.Tree.{Declaration, heading_lines, method_lines}
 use Rattle.language.specs.Layout.{Run, MethodAt, body_row}
 use Rattle.language.specs.WellFormed.{MethodInForm}
-use Rattle.language.proofs.Lines.{less_or_same, run_unique}
+use Rattle.language.proofs.Lines.{run_unique}
 use Rattle.layout.specs.HeadingRuns.{block_here, parameters_run, effects_run}
 use Rattle.layout.specs.Walks.{MethodStanding}
 
-module _ {R : List ℕ} {l r n : ℕ} (w : Run R l r n) (i : ℕ) (p : i ≤ n) where
-  -- the next row has the letter too, so it is one of the run
-  pub run_next : get_or R ((r + i) * 4) 0 ≡ l → i + 1 ≤ n
-  run_next e = ⊎_elim (λ q. omega (arith, q))
-      (λ q. absurd (w.other (ap (λ (n : ℕ). get_or R ((r + n) * 4) 0) (sym q) ∙ e))) (less_or_same i n p)
+-- how many of some numbers in order pass a test that the first n alone pass
+prefix_is : (q : ℕ → Bool) (r n m : ℕ) → ((i : ℕ) → i < n → q (r + i) ≡ true) → q (r + n) ≡ false → n < m
+    → prefix_len q (range_with_len r m) ≡ n
+prefix_is q r n zero f e l = absurd (omega (arith, l))
+prefix_is q r zero (suc m) f e l = let z : q r ≡ false = ap q (omega arith) ∙ e in rw z
+prefix_is q r (suc n) (suc m) f e l =
+    let z : q r ≡ true = ap q (omega arith) ∙ f 0 (omega arith) in
+    let more = prefix_is q (r + 1) n m
+    (λ i h. ap q (omega arith) ∙ f (suc i) (omega (arith, h))) (ap q (omega arith) ∙ e) (omega (arith, l)) in
+    rw (z, more) (omega arith)
 
-  -- it has not, so the run is over
-  pub run_end : (get_or R ((r + i) * 4) 0 ≡ l → ⊥) → Run R l r i
-  run_end o = ⊎_elim (λ q. absurd (o (w.each i q))) (λ q. subst (Run R l r) (sym q) w) (less_or_same i n p)
+module _ {R : List ℕ} {l r n : ℕ} (w : Run R l r n) where
+  pub first_other : position_or_len (λ i. not (eqb (get_or R (i * 4) 0) l)) (range_with_len r (length R / 4 - r)) ≡ n
+  first_other = prefix_is (λ i. not (not (eqb (get_or R (i * 4) 0) l))) r n (length R / 4 - r)
+      (λ i h. ap (λ b. not (not b)) (eq-eqb _ _ (w.each i h))) (ap (λ b. not (not b)) (ne_eqb _ _ w.other))
+      (omega (arith, w.inside))
+
+  -- the first row with another letter is found, as many rows on as the run has
+  pub run_found : (o : Option ℕ)
+      → o ≡ cond (ltb (position_or_len (λ i. not (eqb (get_or R (i * 4) 0) l)) (range_with_len r (length R / 4 - r)))
+      (length (range_with_len r (length R / 4 - r))))
+      (Some (position_or_len (λ i. not (eqb (get_or R (i * 4) 0) l)) (range_with_len r (length R / 4 - r)))) None
+      → o ≡ Some n
+  run_found o e = e ∙ rw (
+    first_other,
+    length-range_with_len r (length R / 4 - r),
+    lt-ltb n (length R / 4 - r) (omega (arith, w.inside)),
+  )
 
 -- ---- a method
 

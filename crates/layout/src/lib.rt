@@ -6,18 +6,16 @@ ghost use Rattle.language.specs.Layout.{Run};
 ghost use Rattle.language.specs.Tree.{method_lines};
 ghost use Rattle.layout.specs.Walks.{MethodStanding};
 
-use language::{EFFECT, PARAMETER, letter_at};
+use language::{EFFECT, NUMBERS_A_ROW, PARAMETER, letter_at};
 
 // How many rows from one on have a letter.
 pub fn count_rows(rows: &[u32], r: usize, letter: u32) -> usize
     requires { (n : ℕ) × Run rows.now letter r n }
     ensures { Run rows.now letter r result }
 {
-    let mut i = 0;
-    while letter_at(rows, r + i) == letter {
-        i += 1;
-    }
-    i
+    (r..rows.len() / NUMBERS_A_ROW)
+        .position(|at| letter_at(rows, at) != letter)
+        .unwrap()
 }
 
 // The row after a method's body.

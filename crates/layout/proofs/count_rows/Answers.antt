@@ -1,49 +1,30 @@
 -- `layout::count_rows` meets its contract. Assumes nothing.
-use mathlib.Core.Path.{sym, ◌∙◌}
-use native.Mathlib.Omega.{arith}
-use Rattle.layout.proofs.Walks.{run_next, run_end}
+use Rattle.std.proofs.Common.{rules, tests, arith, ◌≡◌, ◌*◌, ◌-◌, ◌/◌, eqb, get_or, length, subst, Some}
+use mathlib.Core.Bool.{not}
+use Rattle.std.proofs.lemmas.Iterator.{serves_from_Range, YieldsList-from_range}
+use Rattle.std.proofs.lemmas.Iterator.Search.{position_from_yields_List}
+use Rattle.language.specs.Layout.{Run}
+use Rattle.layout.proofs.Walks.{run_found}
 use Rattle.layout.proofs.count_rows.Goals as goal
 
-pub loop-i-init : goal.loop-i-init
-loop-i-init c = λ n w. omega arith
+pub position-requires-clause-callable : goal.position-requires-clause-callable
+position-requires-clause-callable c = serves_from_Range (λ x q k. search rules) (λ x l h. grind arith)
 
-pub overflow_add-r : goal.overflow_add-r
-overflow_add-r c = omega (
-  arith,
-  c.loop-i.invariant c.requires.0 c.requires.1,
-  c.requires.1.inside,
-)
-
-pub letter_at-requires : goal.letter_at-requires
-letter_at-requires c = omega (
-  arith,
-  c.loop-i.invariant c.requires.0 c.requires.1,
-  c.requires.1.inside,
-)
-
-pub overflow_add-i : goal.overflow_add-i
-overflow_add-i c = omega (
-  arith,
-  c.loop-i.invariant c.requires.0
-      c.requires.1,
-  c.requires.1.inside,
-)
-
-pub loop-i-smaller : goal.loop-i-smaller
-loop-i-smaller c = omega (
-  arith,
-  c.loop-i.invariant c.requires.0
-      c.requires.1,
-  c.requires.1.inside,
-)
-
-pub loop-i-preserved : goal.loop-i-preserved
-loop-i-preserved c = λ n w.
-    run_next w c.loop-i.i (c.loop-i.invariant n w)
-    (sym c.letter_at.ensures ∙ c.loop-i-test.true)
+pub unwrap-requires : goal.unwrap-requires
+unwrap-requires c =
+    let rows = c.args.rows.now in
+    let e : c.position.result ≡ Some c.requires.0 = run_found c.requires.1 _ (position_from_yields_List
+    (λ i. not (eqb (get_or rows (i * 4) 0) c.args.letter)) _ _ c.position.result c.position.ensures.ran
+    (YieldsList-from_range c.args.r (length rows / 4) (length rows / 4 - c.args.r) (cc) (omega arith))
+    (λ x b q k. search (rules, tests))) in
+    rw e (search rules)
 
 pub returns : goal.returns
-returns c = run_end c.requires.1 c.loop-i.i
-    (c.loop-i.invariant c.requires.0
-    c.requires.1)
-    (λ e. c.loop-i-test.false (c.letter_at.ensures ∙ e))
+returns c =
+    let rows = c.args.rows.now in
+    let e : c.position.result ≡ Some c.requires.0 = run_found c.requires.1 _ (position_from_yields_List
+    (λ i. not (eqb (get_or rows (i * 4) 0) c.args.letter)) _ _ c.position.result c.position.ensures.ran
+    (YieldsList-from_range c.args.r (length rows / 4) (length rows / 4 - c.args.r) (cc) (omega arith))
+    (λ x b q k. search (rules, tests))) in
+    let n : c.requires.0 ≡ c.unwrap.result = cc in
+    subst (Run rows c.args.letter c.args.r) n c.requires.1
