@@ -269,15 +269,15 @@ fn call(
         tally.old (answered result tally.new) }
 {
     let rows = program.rows;
-    let n = rows[at * 4 + 2] as usize;
+    let n = second(rows, at) as usize;
     let r = args(program, store, slots, tally, at + 1, place, n + 1);
     if r >= STUCK {
         return r;
     }
 
-    let v = slots[place.top];
-    let m = rows[at * 4 + 1] as usize;
-    match objects::find_body(program, store, tally, v, m, n, place.calls) {
+    let receiver = slots[place.top];
+    let m = first(rows, at) as usize;
+    match objects::find_body(program, store, tally, receiver, m, n, place.calls) {
         Err(outcome) => outcome,
         Ok(b) => {
             let size = program.ends[b] as usize - b;

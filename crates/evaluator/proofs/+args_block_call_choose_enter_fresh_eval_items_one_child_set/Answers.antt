@@ -1,6 +1,6 @@
 use native.Mathlib.Omega.{arith}
 use mathlib.Core.Path.{◌≡◌, refl, ap, ◌∙◌, sym}
-use Prim.Native.Nat.{ℕ, ◌+◌, ◌-◌}
+use Prim.Native.Nat.{ℕ, ◌+◌, ◌-◌, ◌<◌}
 use Rattle.objects.specs.Values.{Gave, meaning, outcome}
 use Rattle.objects.proofs.Values.{outcome_value, not_gave, meaning_null, word_of_outcome, outcome_stuck}
 use Rattle.objects.proofs.Values.{case_truth, outcome_spent}
@@ -16,7 +16,7 @@ use Rattle.evaluator.proofs.Calls.{call_apart, call_args, kept_args, call_fail, 
 use Rattle.evaluator.proofs.Calls.{call_enter, call_ends, call_done}
 use Rattle.evaluator.proofs.Entering.{width_small, nested_small, in_ends, ends_at, here_pre, here_done}
 use Rattle.evaluator.proofs.Entering.{own_pre, own_done, words_copied}
-use lib.ListN.{length-replicate}
+use lib.ListN.{length, length-replicate}
 use Rattle.evaluator.proofs.Choices.{choose_apart, choose_first, choose_second, choose_third, choose_fail}
 use Rattle.evaluator.proofs.Choices.{null_or_object, choose_stuck, choose_yes, choose_no}
 use Rattle.evaluator.proofs.Sets.{set_apart, set_first, set_second, set_fail, set_fail_second, set_done}
@@ -93,100 +93,103 @@ call-args-r-requires t c = (
     (call_apart c.requires.pre_entered c.requires.at_value).many,
     (call_apart c.requires.pre_entered c.requires.at_value).few,
   ),
-  call_args (call_apart c.requires.pre_entered c.requires.at_value),
+  rw c.second-n.ensures (call_args (call_apart c.requires.pre_entered c.requires.at_value)),
 )
 
 pub call-returns-then-r-ge-STUCK : goal.call-returns-then-r-ge-STUCK
 call-returns-then-r-ge-STUCK t c = call_fail c.args.at
-    c.requires.at_value c.args-r.ensures
+    c.requires.at_value (rw c.second-n.ensures at c.args-r.ensures)
     (not_gave c.args-r.result c.if-r-ge-STUCK.true)
 
 pub call-find_body-requires : goal.call-find_body-requires
-call-find_body-requires t c = call_find (call_apart c.requires.pre_entered
+call-find_body-requires t c = rw c.first-m.ensures (call_find (call_apart c.requires.pre_entered
     c.requires.at_value)
-    c.args-r.ensures
+    (rw c.second-n.ensures at c.args-r.ensures))
 
 pub call-offset_bounds-program-b : goal.call-offset_bounds-program-b
-call-offset_bounds-program-b t c = let x = call_apart c.requires.pre_entered c.requires.at_value in
-    let p = call_enter x c.args-r.ensures c.in-Ok.ensures in
-    omega (arith, in_ends p, c.well_formed.1.0)
+call-offset_bounds-program-b t c =
+    let h : c.in-Ok.b < length c.args.program.now.ends.now
+    = in_ends (call_enter (call_apart c.requires.pre_entered c.requires.at_value)
+    (rw c.second-n.ensures at c.args-r.ensures)
+    (rw (c.first-m.ensures, c.second-n.ensures) at c.in-Ok.ensures)) in
+    omega arith
 
 pub call-bounds-program-b : goal.call-bounds-program-b
 call-bounds-program-b t c = let x = call_apart c.requires.pre_entered c.requires.at_value in
-    let p = call_enter x c.args-r.ensures c.in-Ok.ensures in
+    let p = call_enter x (rw c.second-n.ensures at c.args-r.ensures) (rw (c.first-m.ensures, c.second-n.ensures) at c.in-Ok.ensures) in
     in_ends p
 
 pub call-overflow_sub-size : goal.call-overflow_sub-size
 call-overflow_sub-size t c = let x = call_apart c.requires.pre_entered c.requires.at_value in
-    let p = call_enter x c.args-r.ensures c.in-Ok.ensures in
+    let p = call_enter x (rw c.second-n.ensures at c.args-r.ensures) (rw (c.first-m.ensures, c.second-n.ensures) at c.in-Ok.ensures) in
     omega (arith, ends_at p)
 
 pub call-frame_width-width-requires : goal.call-frame_width-width-requires
 call-frame_width-width-requires t c = let x = call_apart c.requires.pre_entered c.requires.at_value in
-    let p = call_enter x c.args-r.ensures c.in-Ok.ensures in
-    p.few
+    let p = call_enter x (rw c.second-n.ensures at c.args-r.ensures) (rw (c.first-m.ensures, c.second-n.ensures) at c.in-Ok.ensures) in
+    rw c.second-n.ensures p.few
 
 pub call-overflow_add-place : goal.call-overflow_add-place
 call-overflow_add-place t c = let x = call_apart c.requires.pre_entered c.requires.at_value in
-    let p = call_enter x c.args-r.ensures c.in-Ok.ensures in
+    let p = call_enter x (rw c.second-n.ensures at c.args-r.ensures) (rw (c.first-m.ensures, c.second-n.ensures) at c.in-Ok.ensures) in
     omega (
       arith,
-      width_small p c.frame_width-width.ensures,
+      width_small p (rw c.second-n.ensures at c.frame_width-width.ensures),
       p.there,
-      (kept_args x c.args-r.ensures).long,
+      (kept_args x (rw c.second-n.ensures at c.args-r.ensures)).long,
       c.requires.pre_entered.ready.whole,
     )
 
 pub call-overflow_mul-most_nested : goal.call-overflow_mul-most_nested
 call-overflow_mul-most_nested t c = let x = call_apart c.requires.pre_entered c.requires.at_value in
-    let p = call_enter x c.args-r.ensures c.in-Ok.ensures in
+    let p = call_enter x (rw c.second-n.ensures at c.args-r.ensures) (rw (c.first-m.ensures, c.second-n.ensures) at c.in-Ok.ensures) in
     omega (arith, nested_small p c.most_nested.ensures)
 
 pub call-overflow_add-place-in-Ok : goal.call-overflow_add-place-in-Ok
 call-overflow_add-place-in-Ok t c = let x = call_apart c.requires.pre_entered c.requires.at_value in
-    let p = call_enter x c.args-r.ensures c.in-Ok.ensures in
+    let p = call_enter x (rw c.second-n.ensures at c.args-r.ensures) (rw (c.first-m.ensures, c.second-n.ensures) at c.in-Ok.ensures) in
     omega (
       arith,
-      width_small p c.frame_width-width.ensures,
+      width_small p (rw c.second-n.ensures at c.frame_width-width.ensures),
       nested_small p c.most_nested.ensures,
       p.there,
-      (kept_args x c.args-r.ensures).long,
+      (kept_args x (rw c.second-n.ensures at c.args-r.ensures)).long,
       c.requires.pre_entered.ready.whole,
     )
 
 pub call-enter_fresh-requires : goal.call-enter_fresh-requires
 call-enter_fresh-requires t c = let x = call_apart c.requires.pre_entered c.requires.at_value in
-    let p = call_enter x c.args-r.ensures c.in-Ok.ensures in (
-      omega (arith, c.decreases, (kept_args x c.args-r.ensures).falls),
+    let p = call_enter x (rw c.second-n.ensures at c.args-r.ensures) (rw (c.first-m.ensures, c.second-n.ensures) at c.in-Ok.ensures) in (
+      omega (arith, c.decreases, (kept_args x (rw c.second-n.ensures at c.args-r.ensures)).falls),
       (
-        p,
+        rw c.second-n.ensures p,
         c.frame_width-width.ensures,
       ),
     )
 
 pub call-returns-then-place-width-gt1920 : goal.call-returns-then-place-width-gt1920
-call-returns-then-place-width-gt1920 t c = call_done c.args.at c.requires.at_value c.args-r.ensures
-    (outcome_value c.args-r.result (omega (arith, c.if-r-ge-STUCK.false))) c.in-Ok.ensures c.enter_fresh.ensures
+call-returns-then-place-width-gt1920 t c = call_done c.args.at c.requires.at_value (rw c.second-n.ensures at c.args-r.ensures)
+    (outcome_value c.args-r.result (omega (arith, c.if-r-ge-STUCK.false))) (rw (c.first-m.ensures, c.second-n.ensures) at c.in-Ok.ensures) (rw c.second-n.ensures at c.enter_fresh.ensures)
 
 pub call-eval-requires : goal.call-eval-requires
 call-eval-requires t c = let x = call_apart c.requires.pre_entered c.requires.at_value in
-    let p = call_enter x c.args-r.ensures c.in-Ok.ensures in (
-      omega (arith, c.decreases, (kept_args x c.args-r.ensures).falls),
-      here_pre c.frame_width-width.ensures c.most_nested.ensures
-          (omega (arith, c.if-place-width-gt1920.false, p.whole)) p,
+    let p = call_enter x (rw c.second-n.ensures at c.args-r.ensures) (rw (c.first-m.ensures, c.second-n.ensures) at c.in-Ok.ensures) in (
+      omega (arith, c.decreases, (kept_args x (rw c.second-n.ensures at c.args-r.ensures)).falls),
+      rw c.second-n.ensures (here_pre (rw c.second-n.ensures at c.frame_width-width.ensures) c.most_nested.ensures
+          (omega (arith, c.if-place-width-gt1920.false, p.whole)) p),
     )
 
 pub call-returns-in-Err : goal.call-returns-in-Err
-call-returns-in-Err t c = call_ends c.args.at c.requires.at_value c.args-r.ensures
-    (outcome_value c.args-r.result (omega (arith, c.if-r-ge-STUCK.false))) c.in-Err.ensures
+call-returns-in-Err t c = call_ends c.args.at c.requires.at_value (rw c.second-n.ensures at c.args-r.ensures)
+    (outcome_value c.args-r.result (omega (arith, c.if-r-ge-STUCK.false))) (rw (c.first-m.ensures, c.second-n.ensures) at c.in-Err.ensures)
 
 pub call-returns-else-place-width-gt1920 : goal.call-returns-else-place-width-gt1920
 call-returns-else-place-width-gt1920 t c = let x = call_apart c.requires.pre_entered c.requires.at_value in
-    let p = call_enter x c.args-r.ensures c.in-Ok.ensures in
-    call_done c.args.at c.requires.at_value c.args-r.ensures
-    (outcome_value c.args-r.result (omega (arith, c.if-r-ge-STUCK.false))) c.in-Ok.ensures
-    (here_done c.frame_width-width.ensures c.most_nested.ensures
-    (omega (arith, c.if-place-width-gt1920.false, p.whole)) c.eval.ensures)
+    let p = call_enter x (rw c.second-n.ensures at c.args-r.ensures) (rw (c.first-m.ensures, c.second-n.ensures) at c.in-Ok.ensures) in
+    call_done c.args.at c.requires.at_value (rw c.second-n.ensures at c.args-r.ensures)
+    (outcome_value c.args-r.result (omega (arith, c.if-r-ge-STUCK.false))) (rw (c.first-m.ensures, c.second-n.ensures) at c.in-Ok.ensures)
+    (here_done (rw c.second-n.ensures at c.frame_width-width.ensures) c.most_nested.ensures
+    (omega (arith, c.if-place-width-gt1920.false, p.whole)) (rw c.second-n.ensures at c.eval.ensures))
 
 -- `choose`
 
