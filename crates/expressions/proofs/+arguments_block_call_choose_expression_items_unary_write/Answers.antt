@@ -53,9 +53,6 @@ arguments-returns-in_err-r t c = rw (passed_on c.from_residual.result c.from_res
 pub arguments-store_type-requires : goal.arguments-store_type-requires
 arguments-store_type-requires t c = let k = store_ready c.loop-i.invariant c.loop-i-test.true c.expression.ensures in record { n_in_bounds = k.0; by_index = k.1 }
 
-pub arguments-offset_bounds-program-next : goal.arguments-offset_bounds-program-next
-arguments-offset_bounds-program-next t c = omega (arith, (in_row (argument_pre c.loop-i.invariant c.loop-i-test.true)).3)
-
 pub arguments-bounds-program-next : goal.arguments-bounds-program-next
 arguments-bounds-program-next t c = (in_row (argument_pre c.loop-i.invariant c.loop-i-test.true)).1
 
@@ -66,12 +63,6 @@ arguments-loop-i-preserved t c = arguments_next c.loop-i.invariant c.loop-i-test
 
 pub arguments-returns : goal.arguments-returns
 arguments-returns t c = arguments_ended c.loop-i.invariant c.loop-i-test.false refl
-
-pub block-first-v-requires : goal.block-first-v-requires
-block-first-v-requires t c = omega (arith, (in_row c.requires.pre).0)
-
-pub block-second-n-requires : goal.block-second-n-requires
-block-second-n-requires t c = omega (arith, (in_row c.requires.pre).0)
 
 pub block-open-requires : goal.block-open-requires
 block-open-requires t c = block_open_pre c.requires.pre c.requires.at_value _ _ c.first-v.ensures
@@ -112,9 +103,6 @@ call-returns-in_err-receiver t c = rw (passed_on c.from_residual.result c.from_r
 pub call-bounds-program-at : goal.call-bounds-program-at
 call-bounds-program-at t c = (in_row (call_first c.requires.pre c.requires.at_value)).1
 
-pub call-second-n-requires : goal.call-second-n-requires
-call-second-n-requires t c = omega (arith, (in_row c.requires.pre).0)
-
 pub call-items-requires : goal.call-items-requires
 call-items-requires t c = (
   omega (
@@ -127,9 +115,6 @@ call-items-requires t c = (
       c.expression.ensures c.in_ok-receiver.was
       _ c.second-n.ensures,
 )
-
-pub call-too_many-requires : goal.call-too_many-requires
-call-too_many-requires t c = (leaf_row c.requires.pre).1
 
 pub call-returns-in_err-items : goal.call-returns-in_err-items
 call-returns-in_err-items t c = rw (passed_on c.from_residual-in_err-items.result c.from_residual-in_err-items.ensures.1)
@@ -261,17 +246,11 @@ choose-returns t c = choose_done c.requires.pre c.requires.at_value c.expression
     c.expression-3.ensures
     c.in_ok-no.was c.choice.ensures
 
-pub expression-letter_at-requires : goal.expression-letter_at-requires
-expression-letter_at-requires t c = omega (arith, (in_row c.requires).0)
-
 pub expression-read_slot-requires : goal.expression-read_slot-requires
 expression-read_slot-requires t c = record {
   in_row = leaf_row c.requires;
   size_in_bounds = leaf_slots c.requires;
 }
-
-pub expression-create-requires : goal.expression-create-requires
-expression-create-requires t c = leaf_row c.requires
 
 pub expression-change-requires : goal.expression-change-requires
 expression-change-requires t c = change_pre c.requires (sym c.letter_at.ensures ∙ c.in-82.is)
@@ -344,21 +323,6 @@ expression-returns-in-82 t c = change_post (room_none c.requires.given.room)
     (sym c.letter_at.ensures ∙ c.in-82.is)
     c.change.ensures
 
-pub expression-returns-in-85 : goal.expression-returns-in-85
-expression-returns-in-85 t c = c.write.ensures
-
-pub expression-returns-in-81 : goal.expression-returns-in-81
-expression-returns-in-81 t c = c.call.ensures
-
-pub expression-returns-in-74 : goal.expression-returns-in-74
-expression-returns-in-74 t c = c.choose.ensures
-
-pub expression-returns-in-66 : goal.expression-returns-in-66
-expression-returns-in-66 t c = c.block.ensures
-
-pub expression-returns-in_default : goal.expression-returns-in_default
-expression-returns-in_default t c = c.unary.ensures
-
 pub items-loop-init : goal.items-loop-init
 items-loop-init t c = rw c.plain-so_far.ensures (items_start c.requires (omega arith))
 
@@ -381,13 +345,6 @@ items-returns-in_err-r t c = rw (passed_on c.from_residual.result c.from_residua
     (items_broken c.loop.invariant (λ e. omega (arith, c.loop-test.true))
     c.expression.ensures c.in_err-r.was)
 
-pub items-offset_bounds-program-next : goal.items-offset_bounds-program-next
-items-offset_bounds-program-next t c = omega (
-  arith,
-  (in_row
-      (first_pre c.loop.invariant.pre (λ e. omega (arith, c.loop-test.true)))).3,
-)
-
 pub items-bounds-program-next : goal.items-bounds-program-next
 items-bounds-program-next t c = (in_row (first_pre c.loop.invariant.pre (λ e. omega (arith, c.loop-test.true)))).1
 
@@ -407,18 +364,9 @@ unary-expression-requires t c = (
   unary_first c.requires.unary c.requires.pre,
 )
 
-pub unary-letter_at-requires : goal.unary-letter_at-requires
-unary-letter_at-requires t c = omega (arith, (in_row c.requires.pre).0)
-
-pub unary-test_null-requires : goal.unary-test_null-requires
-unary-test_null-requires t c = (leaf_row c.requires.pre).1
-
 pub unary-get-requires : goal.unary-get-requires
 unary-get-requires t c = get_pre c.requires.pre c.expression.ensures c.in_ok-child.was
     (sym c.letter_at.ensures ∙ c.in-71.is)
-
-pub unary-cast-requires : goal.unary-cast-requires
-unary-cast-requires t c = leaf_row c.requires.pre
 
 pub unary-assign-requires : goal.unary-assign-requires
 unary-assign-requires t c = assign_pre c.requires.pre c.expression.ensures c.in_ok-child.was
@@ -494,3 +442,22 @@ pub unary-returns-in_err-child : goal.unary-returns-in_err-child
 unary-returns-in_err-child t c = rw (passed_on c.from_residual.result c.from_residual.ensures.1)
     (unary_fail c.requires.pre c.expression.ensures c.requires.unary
     c.in_err-child.was)
+
+pub arguments-offset_bounds-program-next : goal.arguments-offset_bounds-program-next
+arguments-offset_bounds-program-next t c = omega (arith, (in_row (argument_pre c.loop-i.invariant c.loop-i-test.true)).3)
+
+pub expression-letter_at-requires : goal.expression-letter_at-requires
+expression-letter_at-requires t c = omega (arith, (in_row c.requires).0)
+
+pub items-offset_bounds-program-next : goal.items-offset_bounds-program-next
+items-offset_bounds-program-next t c = omega (
+  arith,
+  (in_row
+      (first_pre c.loop.invariant.pre (λ e. omega (arith, c.loop-test.true)))).3,
+)
+
+pub unary-letter_at-requires : goal.unary-letter_at-requires
+unary-letter_at-requires t c = omega (arith, (in_row c.requires.pre).0)
+
+pub unary-overflow_add-at : goal.unary-overflow_add-at
+unary-overflow_add-at t c = omega (arith, (in_row c.requires.pre).3)
