@@ -1,8 +1,8 @@
 -- Laws of what Q answers and leaves: too many arguments, arguments against their types, the method found. Assumes nothing.
-use mathlib.Core.Path.{◌≡◌, sym, ap, ◌∙◌, ap₂}
-use mathlib.Core.Bool.{Bool, true, false, ◌&&◌}
+use mathlib.Core.Path.{◌≡◌, refl, sym, ap, ◌∙◌, ap₂}
 use mathlib.Core.List.{List}
-use Prim.Native.Nat.{ℕ, suc, ◌+◌, ◌*◌, ◌≤◌, ◌<◌, ◌-◌}
+use Prim.Native.Nat.{ℕ, zero, suc, ◌+◌, ◌*◌}
+use Rattle.std.specs.List.{list_all, range_with_len}
 use lib.ListN.{get_or}
 use Rattle.types.specs.declared.Typing.{Typing}
 use Rattle.types.specs.declared.Typing.TheVariants.{Class}
@@ -16,45 +16,23 @@ use Rattle.language.specs.Effects.{join}
 use Rattle.types.specs.declared.slots.Scope.{Scope}
 
 -- arguments one by one
-module _ (R A S : List ℕ) (from row n : ℕ) where
-  abbrev pub FitLeft : ℕ → Type 0
-  FitLeft i = all_fitting R A S from row n ≡ all_fitting R A S (from + i) (row + i) (n - i)
-
-  pub fit_start : FitLeft 0
-  fit_start =
-      let p : from + 0 ≡ from = omega arith in
-      let q : row + 0 ≡ row = omega arith in
-      let r : n - 0 ≡ n = omega arith in
-      sym (ap₂ (λ (x : ℕ) (y : ℕ). all_fitting R A S x y (n - 0)) p q
-      ∙ ap (λ (x : ℕ). all_fitting R A S from row x) r)
-
-  module _ (i : ℕ) (l : i < n) (h : FitLeft i) (b : Bool) (t : Typing) (m : ℕ)
-      (et : t ≡ stored_case (get_or S (from + i) 0))
-      (em : m ≡ get_or R ((row + i) * 4 + 1) 0) (e : b ≡ is_fitting A t m) where
-    fit-open : all_fitting R A S from row n
-        ≡ b && all_fitting R A S (from + (i + 1)) (row + (i + 1)) (n - (i + 1))
-    unfolding all_fitting
-    fit-open =
-        let q : n - i ≡ suc (n - (i + 1)) = omega arith in
-        let p : from + i + 1 ≡ from + (i + 1) = omega arith in
-        let r : row + i + 1 ≡ row + (i + 1) = omega arith in
-        h ∙ ap (λ (k : ℕ). all_fitting R A S (from + i) (row + i) k) q
-        ∙ ap₂ (λ (x : Bool) (y : Bool). x && y)
-        (sym (e ∙ ap₂ (λ (x : Typing) (y : ℕ). is_fitting A x y) et em))
-        (ap₂ (λ (x : ℕ) (y : ℕ). all_fitting R A S x y (n - (i + 1))) p r)
-
-    pub fit_step : b ≡ true → FitLeft (i + 1)
-    fit_step f = fit-open
-        ∙ ap (λ (x : Bool). x && all_fitting R A S (from + (i + 1)) (row + (i + 1)) (n - (i + 1))) f
-
-    pub fit_stop : b ≡ false → false ≡ all_fitting R A S from row n
-    fit_stop f = sym (fit-open ∙ ap (λ (x : Bool). x && all_fitting R A S (from + (i + 1)) (row + (i + 1))
-        (n - (i + 1))) f)
-
-  pub fit_end : (i : ℕ) → n ≤ i → FitLeft i → true ≡ all_fitting R A S from row n
-  unfolding all_fitting
-  fit_end i l h = let q : n - i ≡ 0 = omega arith in
-      sym (h ∙ ap (λ (k : ℕ). all_fitting R A S (from + i) (row + i) k) q)
+pub fitting_all : (R A S : List ℕ) (from row n : ℕ)
+    → list_all (λ i. is_fitting A (stored_case (get_or S (from + i) 0)) (get_or R ((row + i) * 4 + 1) 0))
+    (range_with_len 0 n) ≡ all_fitting R A S from row n
+unfolding all_fitting
+fitting_all R A S from row n =
+    let p : from ≡ from + 0 = omega arith in
+    let q : row ≡ row + 0 = omega arith in
+    go n 0 ∙ sym (ap₂ (λ (x : ℕ) (y : ℕ). all_fitting R A S x y n) p q)
+  where
+    go : (n j : ℕ)
+        → list_all (λ i. is_fitting A (stored_case (get_or S (from + i) 0)) (get_or R ((row + i) * 4 + 1) 0))
+        (range_with_len j n) ≡ all_fitting R A S (from + j) (row + j) n
+    go zero j = refl
+    go (suc n) j =
+        let p : from + j + 1 ≡ from + (j + 1) = omega arith in
+        let q : row + j + 1 ≡ row + (j + 1) = omega arith in
+        rw (p, q, go n (j + 1))
 
 -- Q: the table's number for a method, and its result
 module _ (T : List ℕ) (ψ c k m n stored : ℕ) (e : k ≡ applied T ψ c) (n_is : n ≡ m)

@@ -34,16 +34,10 @@ pub fn are_fitting(
     requires { PreFitting rows.now above.now slots.now from row n }
     ensures { result ≡ all_fitting rows.now above.now slots.now from row n }
 {
-    for i in 0..n {
-        if !is_fitting(
-            above,
-            typing_at(slots[from + i]),
-            Type::from_number(first(rows, row + i)),
-        ) {
-            return false;
-        }
-    }
-    true
+    (0..n).all(|i| {
+        let declared = Type::from_number(first(rows, row + i));
+        is_fitting(above, typing_at(slots[from + i]), declared)
+    })
 }
 
 // Q, after its children: 9, 8 for the method, 8 for the count, 9. The method's effect comes last, and on all slots.
