@@ -1,21 +1,41 @@
 -- Laws of writing numbers from a place on, step by step. Assumes nothing.
 use mathlib.Core.Path.{◌≡◌, refl, sym, ap, ◌∙◌}
 use mathlib.Core.List.{List, [], ◌∷◌, ◌++◌}
-use Prim.Native.Nat.{ℕ, ◌+◌, ◌<◌}
-use native.Mathlib.Numerals.{add-one}
+use mathlib.Core.Logic.{◌⊎◌, inl, inr}
+use Prim.Native.Nat.{ℕ, suc, ◌+◌, ◌≤◌}
 use native.Mathlib.Omega.{arith}
-use lib.ListN.{length, get_or, take, set, length-append}
-use lib.Seq.{sets, length-sets, length-take-le, take-suc}
+use lib.ListN.{length, take, drop, length-append}
+use lib.Seq.{sets, sets-eq, set_out, length-sets, length-take-le, take_all}
+use borrow.Rule.Slice.PartMut.{put_mid}
+use Rattle.std.proofs.lemmas.List.{take-append-drop}
+use Rattle.std.proofs.lemmas.Slice.{put_mid-paste}
 use Rattle.language.proofs.Filling.{sets_then}
 use Rattle.emitters.specs.Writing.{Written}
 
--- one more of the numbers written
-pub put_more : (O xs : List ℕ) (place i : ℕ) → i < length xs
-    → sets O place (take (i + 1) xs) ≡ set (sets O place (take i xs)) (place + i) (get_or xs i 0)
-put_more O xs place i h =
-    let z : length (take i xs) ≡ i = length-take-le i xs (omega arith) in
-    rw (add-one i, take-suc xs i 0 h)
-    (sym (sets_then O place (place + i) (take i xs) (get_or xs i 0 ∷ []) (omega (arith, z))))
+-- numbers past the end of a buffer are not written
+pub put_past : (O xs : List ℕ) (place : ℕ) → length O ≤ place → sets O place xs ≡ O
+put_past O [] place h = refl
+put_past O (x ∷ xs) place h = rw (set_out O place x h) (put_past O xs (suc place) (omega (arith, h)))
+
+-- as many numbers copied as there are, or as there is room for
+pub put_room : (O xs ys : List ℕ) (place n k : ℕ) → ys ≡ take n xs → k ≡ n → place + n ≤ length O → n ≤ length xs
+    → (length xs ≤ n) ⊎ (length O ≤ place + n) → put_mid place k O ys ≡ sets O place xs
+put_room O xs ys place n k y e h l d =
+    let z : length ys ≡ n = ap length y ∙ length-take-le n xs l in
+    let q = sets-eq ys O place (omega (arith, z, h)) in
+    let r = rw z at q in
+    put_mid-paste place k O ys ys n refl (sym e) (sym z)
+    ∙ ap (λ (v : List ℕ). take place O ++ v ++ drop (place + n) O) (take_all n ys (omega (arith, z)))
+    ∙ sym r
+    ∙ ap (λ (v : List ℕ). sets O place v) y
+    ∙ elim d [
+      | inl g ↦ ap (λ (v : List ℕ). sets O place v) (take_all n xs g)
+      | inr g ↦
+          sym (put_past (sets O place (take n xs)) (drop n xs) (place + n)
+          (omega (arith, length-sets O place (take n xs), g)))
+          ∙ sets_then O place (place + n) (take n xs) (drop n xs) (omega (arith, length-take-le n xs l))
+          ∙ ap (λ (v : List ℕ). sets O place v) (take-append-drop n xs)
+    ]
 
 -- nothing written, and one list after another
 pub written_none : {O : List ℕ} {place : ℕ} → Written [] O O place place

@@ -12,10 +12,9 @@ pub fn put(out: &mut [u32], place: usize, lines: &[[u32; 4]]) -> usize
     ensures { Written (all_numbers lines.now) out.old out.new place result }
 {
     let numbers = lines.as_flattened();
-    for (i, number) in numbers.iter().enumerate() {
-        if place + i < out.len() {
-            out[place + i] = *number;
-        }
+    if place < out.len() {
+        let n = numbers.len().min(out.len() - place);
+        out[place..place + n].copy_from_slice(&numbers[..n]);
     }
     place + numbers.len()
 }
