@@ -78,14 +78,13 @@ pub pass_nodes-loop-init : goal.pass_nodes-loop-init
 pass_nodes-loop-init t c = reading_start (λ at rs. node (most_of c.args.limits) c.args.nesting c.args.slots at rs)
     (omega arith) c.requires.0
 
-pub pass_nodes-returns-in_err-i : goal.pass_nodes-returns-in_err-i
-pass_nodes-returns-in_err-i t c =
-    let p = err_from_is_err_and c.from_residual.result c.from_residual.ensures.1 in
-    rw (p.1, p.2) (reading_stop c.loop.invariant (omega arith) c.in_err-i.ensures refl)
+pub pass_nodes-returns-in_default : goal.pass_nodes-returns-in_default
+pass_nodes-returns-in_default t c =
+    rw c.in_default.is (reading_stop c.loop.invariant (omega arith) c.pass_node-passed.ensures c.in_default.is)
 
 pub pass_nodes-loop-preserved : goal.pass_nodes-loop-preserved
-pass_nodes-loop-preserved t c = reading_step c.loop.invariant (omega arith) c.in_ok-i.ensures refl
-    c.pass_node.auto.ends (omega arith)
+pass_nodes-loop-preserved t c = reading_step c.loop.invariant (omega arith) c.pass_node-passed.ensures c.in-Ok.is
+    c.pass_node-passed.auto.ends (omega arith)
 
 pub pass_nodes-returns : goal.pass_nodes-returns
 pass_nodes-returns t c = reading_end c.loop.invariant (omega arith)
