@@ -1,14 +1,11 @@
 -- `layout::count_rows` meets its contract. Assumes nothing.
 use Rattle.std.proofs.Common.{rules, tests, arith, ◌≡◌, ◌*◌, ◌-◌, ◌/◌, eqb, get_or, length, subst, Some}
 use mathlib.Core.Bool.{not}
-use Rattle.std.proofs.lemmas.Iterator.{serves_from_Range, YieldsList-from_range}
+use Rattle.std.proofs.lemmas.Iterator.{YieldsList-from_range}
 use Rattle.std.proofs.lemmas.Iterator.Search.{position_from_yields_List}
 use Rattle.language.specs.Layout.{Run}
 use Rattle.layout.proofs.Walks.{run_found}
 use Rattle.layout.proofs.count_rows.Goals as goal
-
-pub position-requires-clause-callable : goal.position-requires-clause-callable
-position-requires-clause-callable c = serves_from_Range (λ x q k. search rules) (λ x l h. grind arith)
 
 pub unwrap-requires : goal.unwrap-requires
 unwrap-requires c =
