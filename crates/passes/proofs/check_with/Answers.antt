@@ -5,9 +5,6 @@ use Rattle.passes.proofs.Passing.{ready, headings_passed, headings_refused, bodi
 use Rattle.passes.proofs.Passing.{bodies_passed, bodies_refused}
 use Rattle.passes.proofs.check_with.Goals as goal
 
-pub check_headings-requires : goal.check_headings-requires
-check_headings-requires c = ready c.requires.stands c.requires.room c.requires.class_room c.requires.body_room
-
 pub returns-in_err-many : goal.returns-in_err-many
 returns-in_err-many c =
     let e : c.from_residual.result ≡ Err c.in_err-many.field-0.0 = search rules in
