@@ -9,7 +9,7 @@ use lib.ListN.{length, length-set, get_or, set}
 use lib.Seq.{get_or-set_same, get_or-set_other}
 use Rattle.language.proofs.Lines.{le_or_less, less_or_same}
 use Rattle.fleet.specs.Entries.{entry}
-use Rattle.sums.specs.Window.{bucket_of, bucket_at, Chained, Sums, SomeSums, Lacks, HasAt, Cleared}
+use Rattle.sums.specs.Window.{bucket_of, bucket_at, Chained, Sums, SomeSums, Lacks, HasAt}
 
 pub bucket_small : (n m : ℕ) → 1 ≤ n → bucket_of n m < n
 unfolding bucket_of
@@ -140,15 +140,6 @@ module _ (T H N : List ℕ) (m at : ℕ) (q : at ≡ 0 → ⊥) where
       go : (k : ℕ) → get_or N (at - 1) 0 ≡ k → at - 1 < s.count → get_or N (at - 1) 0 < at
       go zero e l = omega (arith, e, q)
       go (suc k) e l = let x = s.sums.chained.next_own (at - 1) k l e in omega (arith, e, x.0)
-
--- Nothing is chained in empty buckets.
-pub chained_none : (T H N : List ℕ) → Cleared H → Chained T H N 0
-chained_none T H N c = record {
-  head_last = λ j l. absurd (omega (arith, l));
-  head_own = λ b e l q. absurd (omega (arith, c b, q));
-  next_last = λ e j l m q. absurd (omega (arith, l));
-  next_own = λ e k l q. absurd (omega (arith, l));
-}
 
 -- The entries before e are chained.
 pub record Chaining (T H₀ N₀ H N : List ℕ) (e : ℕ) : Type 0 where

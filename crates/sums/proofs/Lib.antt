@@ -1,5 +1,4 @@
 pub mod Chains
-pub mod Limits
 pub mod Tables
 pub mod Adding
 pub mod Narrowing

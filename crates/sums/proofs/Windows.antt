@@ -16,11 +16,7 @@ use Rattle.fleet.proofs.Entries.{entries_length}
 use Rattle.fleet.specs.LineLists.{Other, Distinct, distinct_nil, distinct_cons, in_models}
 use Rattle.fleet.proofs.Summing.{add_in_models}
 use Rattle.sums.specs.declared.Window.{Window}
-use Rattle.std.specs.Prelude.{Option, Result, Err}
-use Rattle.sums.specs.declared.Unadded.{Unadded}
-use Rattle.sums.specs.declared.Unadded.TheVariants.{Full}
-use Rattle.sums.specs.Window.{in_window, below, Lacks, Sized, Chained, SumsAfter, Adds, Open, Narrows}
-use Rattle.sums.specs.Window.{Takes}
+use Rattle.sums.specs.Window.{in_window, below, Lacks, Sized, Chained, SumsAfter, Open, Narrows}
 use Rattle.sums.proofs.Tables.{each_entry, entry_each, lacks_each, add_new}
 use Rattle.sums.proofs.Adding.{sized_same}
 
@@ -208,17 +204,3 @@ opened s ch h n = record {
   are = refl;
   kept = (refl, (h, n));
 }
-
--- A full table is as it was.
-module _ (T H N T' H' N' : List ℕ) (low : ℕ) (w : Window) (c : Counted) (r : Result ℕ Unadded)
-    (a : Adds T H N T' H' N' w.count c r) (q : r ≡ Err Full) where
-  full : (w.count ≡ length N) × (Lacks T w.count c.model × ((T' ≡ T) × ((H' ≡ H) × (N' ≡ N))))
-  full = rw q at a
-
-  pub full_open : Open T H N low w
-      → Open T' H' N' low w × ((w.count ≡ length N') × Lacks T' w.count c.model)
-  full_open o = let f = full in rw (f.1.1.0, f.1.1.1.0, f.1.1.1.1) (o, (f.0, f.1.0))
-
-  pub full_takes : (T'' H'' N'' : List ℕ) (t : Option Window) → Takes T' H' N' T'' H'' N'' low w c t
-      → Takes T H N T'' H'' N'' low w c t
-  full_takes T'' H'' N'' t h = let f = full in rw (f.1.1.0, f.1.1.1.0, f.1.1.1.1) at h

@@ -102,10 +102,6 @@ KeepsEntry T T' kept e end r =
     ((r ≡ kept + 1) × ((get_or T (e * 4) 0 < end) × Put T T' kept (entry T e)))
     ⊎ ((r ≡ kept) × ((end ≤ get_or T (e * 4) 0) × (T' ≡ T)))
 
--- No bucket has an entry.
-abbrev pub Cleared : List ℕ → Type 0
-Cleared H = (b : ℕ) → get_or H b 0 ≡ 0
-
 -- A window from `low` on with the sums of its models.
 pub record Open (T H N : List ℕ) (low : ℕ) (w : Window) : Type 0 where
   pub sums : Sums T H N w.count

@@ -2,12 +2,12 @@
 // window is narrowed to its lower models, and the sums of the others are given up.
 #![tactic(auto)]
 
-ghost use Rattle.std.specs.Prelude.{◌≡◌, ◌⊎◌, [], ◌∷◌, ◌++◌, ℕ, suc, ◌≤◌, ◌<◌, ◌+◌, ◌*◌, ◌/◌, length};
+ghost use Rattle.std.specs.Prelude.{◌≡◌, ◌⊎◌, [], ℕ, suc, ◌≤◌, ◌<◌, ◌+◌, ◌*◌, ◌/◌, length};
 ghost use Rattle.fleet.specs.Ranking.{is_within};
 ghost use Rattle.fleet.specs.Entries.{entries};
 ghost use Rattle.sums.specs.Window.{bucket_of, Sized, Chained, Sums, SomeSums, Found, Lacks};
 ghost use Rattle.sums.specs.Window.{Put, SumsAfter, Added, Enters, Adds, below};
-ghost use Rattle.sums.specs.Window.{KeepsEntry, Cleared, Open, Narrows, Takes};
+ghost use Rattle.sums.specs.Window.{KeepsEntry, Open, Narrows, Takes};
 
 use fleet::{Counted, LINE_SIZE};
 
