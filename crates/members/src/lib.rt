@@ -6,6 +6,7 @@ pub mod fields;
 pub mod methods;
 
 // The numbers of the kinds of classes, as C lines and the table of classes have them; Object has a plain class's.
+// Kept: a kind stays a number, since the table of classes is lent as numbers, and a C line may have one of no kind.
 pub const PLAIN_KIND: u32 = 0;
 
 pub const ROOT_KIND: u32 = 1;
