@@ -3,7 +3,6 @@
 #![tactic(auto)]
 
 ghost use Rattle.std.specs.Prelude.{◌≡◌, Bool, true, false, cond, ◌+◌, ◌*◌, ◌/◌, ◌≤◌, ◌<◌, length, drop};
-ghost use Rattle.std.proofs.Math.Option.{none};
 ghost use Rattle.language.specs.Program.{world};
 ghost use Rattle.language.specs.Refusals.{refusal};
 ghost use Rattle.fleet.specs.Counts.{relates, run_counts, counts_through, count_told};
@@ -11,7 +10,7 @@ ghost use Rattle.fleet.specs.Counts.{class_refusal, first_place};
 ghost use Rattle.classes.specs.Subclasses.{is_below};
 ghost use Rattle.counting.specs.Knowing.{Knows, Knowing, Serves, declares};
 ghost use Rattle.counting.specs.Labels.{class_made, implementor_ended, ended_at, added, labels_next};
-ghost use Rattle.counting.specs.Labels.{counts_of, labels_told, counted};
+ghost use Rattle.counting.specs.Labels.{counts_of, labels_told};
 ghost use Rattle.language.specs.Limits.{of_check, object_width};
 
 use fleet::Labels;
