@@ -1,5 +1,5 @@
 -- From what the services answer to what the programs print. Assumes nothing.
-use mathlib.Core.Path.{◌≡◌, refl, sym, ap, ◌∙◌}
+use mathlib.Core.Path.{◌≡◌, refl, sym, ap, subst, ◌∙◌}
 use mathlib.Core.Bool.{Bool, true, false, cond}
 use mathlib.Core.List.{List, ◌++◌}
 use Prim.Native.Nat.{ℕ, ◌+◌, ◌*◌, ◌/◌, ◌%◌, ◌≤◌, ◌<◌}
@@ -7,15 +7,17 @@ use native.Mathlib.Omega.{arith}
 use borrow.Author.Tests.{le-leb, lt-leb}
 use lib.Dec.{leb}
 use lib.ListN.{length, take, drop, replicate}
-use lib.Seq.{sets, length-sets, length-take-le}
+use lib.Seq.{sets, length-sets}
 use Rattle.language.specs.Results.{Checked, accept, refuse, bind_checked, bind_checked_inv}
 use Rattle.language.specs.Filling.{held, filled, overwritten, answer, buffer}
-use Rattle.language.specs.declared.Filled.{Filled}
-use Rattle.language.specs.declared.Filled.TheVariants.{Done, Refused}
+use Rattle.std.specs.Prelude.{Result, Ok, Err}
+use Rattle.language.specs.Refusals.{refusal}
+use Rattle.language.specs.declared.Refusal.{Refusal}
+use Rattle.console.specs.Shown.{Shown}
 use Rattle.language.specs.State.{null, truth, object, raised, spent, deep, full, stuck}
 use Rattle.language.specs.Store.{Answer, gave, ended, refused, ran, run_of}
 use Rattle.language.specs.Translation.{translation}
-use Rattle.language.proofs.Filling.{take_sets, sets_then, held_inv, held_again, answer_fits, answer_short}
+use Rattle.language.proofs.Filling.{take_sets, sets_then, held_inv, held_again, answer_fits}
 use Rattle.language.proofs.Filling.{answer_refused, answer_refused_inv, answer_done_inv, buffer_long}
 use Rattle.theory.proofs.acceptance.Translatable.{translation_takes}
 use Rattle.theory.proofs.acceptance.Acceptance.{numbers_whole}
@@ -24,7 +26,7 @@ use Rattle.language.specs.Texts.{read_text, write_rows}
 use Rattle.text.proofs.Parsing.{read_whole_rows}
 use Rattle.running.specs.Answers.{answer_told}
 use Rattle.language.specs.Printed.{refusal_text, run_text, run_line, source_rows, printed}
-use Rattle.language.specs.Printed.{plain_text, run_lines, translate_output, run_output}
+use Rattle.language.specs.Printed.{plain_text, run_lines}
 use Rattle.printing.specs.Told.{answer_text}
 use Rattle.printing.proofs.Writing.{both_long}
 
@@ -58,11 +60,10 @@ shown old new text r p h w =
     (rw (w, e) (take_sets old text (omega (arith, h, e))), rw w (omega (arith, h, length-sets old 0 text)))
 
 -- the refusal that was answered is that of what is held
-held_refused : (width room : ℕ) (m : Checked (List ℕ)) (old : List ℕ) (r : Filled) (n l : ℕ)
-    → length old ≡ room
-    → r ≡ answer width m (length old) → r ≡ Refused n l → held room m ≡ refuse n l
-held_refused width room m old r n l h a d = ap (λ (k : ℕ). held k m) (sym h)
-    ∙ answer_refused_inv width (length old) m n l (sym a ∙ d)
+held_refused : (width room : ℕ) (m : Checked (List ℕ)) (old : List ℕ) (r : Result ℕ Refusal) (e : Refusal)
+    → length old ≡ room → r ≡ answer width m (length old) → r ≡ Err e → held room m ≡ refuse e.number e.line
+held_refused width room m old r e h a d = ap (λ (k : ℕ). held k m) (sym h)
+    ∙ answer_refused_inv width (length old) m e.number e.line (sym a ∙ d)
 
 -- n rows stand first in a buffer
 pub record RowsMade (m : Checked (List ℕ)) (new : List ℕ) (n : ℕ) : Type 0 where
@@ -72,9 +73,9 @@ pub record RowsMade (m : Checked (List ℕ)) (new : List ℕ) (n : ℕ) : Type 0
   pub first : take (n * 4) new ≡ numbers
 
 -- rows come whole: their numbers are the first of the buffer
-rows_made : (room : ℕ) (m : Checked (List ℕ)) (old new : List ℕ) (r : Filled) (n : ℕ)
+rows_made : (room : ℕ) (m : Checked (List ℕ)) (old new : List ℕ) (r : Result ℕ Refusal) (n : ℕ)
     → ((xs : List ℕ) → m ≡ accept xs → length xs % 4 ≡ 0)
-    → length old ≡ room → r ≡ answer 4 m (length old) → new ≡ buffer m old → r ≡ Done n
+    → length old ≡ room → r ≡ answer 4 m (length old) → new ≡ buffer m old → r ≡ Ok n
     → RowsMade (held room m) new n
 rows_made room m old new r n whole h a w d =
     let k = answer_done_inv 4 m old new n (sym a ∙ d) w in
@@ -98,7 +99,7 @@ source_read input h = rw (le-leb (length input) 8192 h)
 
 module _ (input old : List ℕ) (h : length old ≡ 2720) where
   pub source_refused : 8192 < length input
-      → (Refused 13 0 ≡ answer 4 (source_rows input) (length old)) × (old ≡ buffer (source_rows input) old)
+      → (Err (refusal 13 0) ≡ answer 4 (source_rows input) (length old)) × (old ≡ buffer (source_rows input) old)
   source_refused l = answer_refused 4 13 0 old (source_long input l)
 
   source_held : length input ≤ 8192 → source_rows input ≡ held (length old) (read_text ours input)
@@ -134,108 +135,98 @@ source_again input = go (leb (length input) 8192)
 pub translation_whole : (rows xs : List ℕ) → translation rows ≡ accept xs → length xs % 4 ≡ 0
 translation_whole rows xs e = let k = translation_takes rows xs e in rw k.2 (numbers_whole _)
 
-module _ (rows old new : List ℕ) (r : Filled) (n : ℕ) (h : length old ≡ 4000)
+module _ (rows old new : List ℕ) (r : Result ℕ Refusal) (n : ℕ) (h : length old ≡ 4000)
     (a : r ≡ answer 4 (translation rows) (length old)) (w : new ≡ buffer (translation rows) old)
-    (d : r ≡ Done n) where
+    (d : r ≡ Ok n) where
   pub plain_made : RowsMade (held 4000 (translation rows)) new n
   plain_made = rows_made 4000 (translation rows) old new r n (translation_whole rows) h a w d
 
-module _ (input old new : List ℕ) (r : Filled) (n : ℕ) (h : length old ≡ 2720)
+module _ (input old new : List ℕ) (r : Result ℕ Refusal) (n : ℕ) (h : length old ≡ 2720)
     (a : r ≡ answer 4 (source_rows input) (length old)) (w : new ≡ buffer (source_rows input) old)
-    (d : r ≡ Done n) where
+    (d : r ≡ Ok n) where
   pub source_made : RowsMade (source_rows input) new n
   source_made = rw (source_again input)
       at (rows_made 2720 (source_rows input) old new r n (source_whole input) h a w d)
 
--- ---- what is printed
+-- ---- what is shown
 
-pub next_shown : {m : Checked (List ℕ)} {new : List ℕ} {n : ℕ} → RowsMade m new n
-    → (k : List ℕ → Checked (List ℕ)) (t : List ℕ)
-    → t ≡ printed (k (take (n * 4) new)) → t ≡ printed (bind_checked m k)
+-- what follows of rows that stand in a buffer, and of a refusal
+pub of_rows : {m : Checked (List ℕ)} {new : List ℕ} {n : ℕ} → RowsMade m new n
+    → (k : List ℕ → Checked (List ℕ)) → bind_checked m k ≡ k (take (n * 4) new)
 unfolding bind_checked
-next_shown {m} {new} {n} g k t e = e ∙ ap (λ (xs : List ℕ). printed (k xs)) g.first
-    ∙ sym (ap (λ (x : Checked (List ℕ)). printed (bind_checked x k)) g.is)
+of_rows g k = ap (λ (x : Checked (List ℕ)). bind_checked x k) g.is ∙ ap k (sym g.first)
 
-pub refused_shown : (m : Checked (List ℕ)) (k : List ℕ → Checked (List ℕ)) (t : List ℕ) (n l : ℕ)
-    → m ≡ refuse n l → t ≡ refusal_text n l → t ≡ printed (bind_checked m k)
+of_refusal : {m : Checked (List ℕ)} {n l : ℕ} → m ≡ refuse n l → (k : List ℕ → Checked (List ℕ))
+    → bind_checked m k ≡ refuse n l
 unfolding bind_checked
-refused_shown m k t n l e q = q ∙ sym (ap (λ (x : Checked (List ℕ)). printed (bind_checked x k)) e)
+of_refusal e k = ap (λ (x : Checked (List ℕ)). bind_checked x k) e
 
--- the two programs, from the rows on
-module _ (rows new : List ℕ) (n : ℕ) (g : RowsMade (held 4000 (translation rows)) new n) (t : List ℕ) where
-  pub plain_shown : t ≡ printed (held 8192 (write_rows ours (take (n * 4) new)))
-      → t ≡ printed (plain_text rows)
-  unfolding plain_text
-  plain_shown e = next_shown g (λ plain. held 8192 (write_rows ours plain)) t e
-
-  pub run_shown : t ≡ run_line rows ++ run_line (take (n * 4) new) → t ≡ printed (run_lines rows)
-  unfolding run_lines
-  run_shown e = next_shown g (λ plain. accept (run_line rows ++ run_line plain)) t e
-
-module _ (rows old : List ℕ) (r : Filled) (n l : ℕ) (h : length old ≡ 4000)
-    (a : r ≡ answer 4 (translation rows) (length old)) (d : r ≡ Refused n l) (t : List ℕ)
-    (e : t ≡ refusal_text n l) where
-  pub plain_refused : t ≡ printed (plain_text rows)
-  unfolding plain_text
-  plain_refused = refused_shown (held 4000 (translation rows))
-      (λ plain. held 8192 (write_rows ours plain)) t n l
-      (held_refused 4 4000 (translation rows) old r n l h a d) e
-
-  pub run_refused : t ≡ printed (run_lines rows)
-  unfolding run_lines
-  run_refused = refused_shown (held 4000 (translation rows))
-      (λ plain. accept (run_line rows ++ run_line plain))
-      t n l (held_refused 4 4000 (translation rows) old r n l h a d) e
-
--- the two programs, from the input on
-module _ (input new : List ℕ) (n : ℕ) (g : RowsMade (source_rows input) new n) (t : List ℕ) where
-  pub translate_shown : t ≡ printed (plain_text (take (n * 4) new)) → t ≡ translate_output input
-  unfolding translate_output
-  translate_shown e = next_shown g (λ rows. plain_text rows) t e
-
-  pub output_shown : t ≡ printed (run_lines (take (n * 4) new)) → t ≡ run_output input
-  unfolding run_output
-  output_shown e = next_shown g (λ rows. run_lines rows) t e
-
--- a refusal of what is held is the source's own
-source_refuse : (input old : List ℕ) (r : Filled) (n l : ℕ) → length old ≡ 2720
-    → r ≡ answer 4 (source_rows input) (length old) → r ≡ Refused n l
-    → source_rows input ≡ refuse n l
-source_refuse input old r n l h a d =
-    sym (source_again input) ∙ held_refused 4 2720 (source_rows input) old r n l h a d
-
-module _ (input old : List ℕ) (r : Filled) (n l : ℕ) (h : length old ≡ 2720)
-    (a : r ≡ answer 4 (source_rows input) (length old)) (d : r ≡ Refused n l) (t : List ℕ)
-    (e : t ≡ refusal_text n l) where
-  pub translate_refused : t ≡ translate_output input
-  unfolding translate_output
-  translate_refused = refused_shown (source_rows input) (λ rows. plain_text rows) t n l
-      (source_refuse input old r n l h a d) e
-
-  pub output_refused : t ≡ run_output input
-  unfolding run_output
-  output_refused = refused_shown (source_rows input) (λ rows. run_lines rows) t n l
-      (source_refuse input old r n l h a d) e
+pub shown_as : {m m' : Checked (List ℕ)} (r : Result ℕ Refusal) (out : List ℕ) → m ≡ m' → Shown m' r out
+    → Shown m r out
+shown_as r out e h = rw e h
 
 -- the text of rows, or the refusal
-module _ (plain old new : List ℕ) (r : Filled) (h : length old ≡ 8192)
-    (a : r ≡ answer 1 (write_rows ours plain) (length old))
-    (w : new ≡ buffer (write_rows ours plain) old) where
-  pub rows_shown : (n : ℕ) → r ≡ Done n
-      → (take n new ≡ printed (held 8192 (write_rows ours plain))) × (n ≤ length new)
-  rows_shown n d =
-      let k = answer_done_inv 1 (write_rows ours plain) old new n (sym a ∙ d) w in
-      let e : n ≡ length k.numbers = omega (arith, k.count) in (
-        rw e (k.first ∙ sym (ap (λ (x : Checked (List ℕ)). printed x)
-            (ap (λ (x : ℕ). held x (write_rows ours plain)) (sym h) ∙ k.is))),
-        omega (arith, e, k.fits, ap length w ∙ buffer_long (write_rows ours plain) old),
-      )
+pub text_shown : (plain old new : List ℕ) (r : Result ℕ Refusal) → length old ≡ 8192
+    → r ≡ answer 1 (write_rows ours plain) (length old) → new ≡ buffer (write_rows ours plain) old
+    → Shown (held 8192 (write_rows ours plain)) r new
+text_shown plain old new r h a w = subst (λ (room : ℕ). Shown (held room made) r new) h (go r a)
+  where
+    made : Checked (List ℕ)
+    made = write_rows ours plain
 
-  pub rows_refused : (n l : ℕ) → r ≡ Refused n l → (t : List ℕ) → t ≡ refusal_text n l
-      → t ≡ printed (held 8192 (write_rows ours plain))
-  rows_refused n l d t e = e
-      ∙ sym (ap (λ (x : Checked (List ℕ)). printed x)
-      (held_refused 1 8192 (write_rows ours plain) old r n l h a d))
+    go : (r : Result ℕ Refusal) → r ≡ answer 1 made (length old) → Shown (held (length old) made) r new
+    go (Ok n) a =
+        let k = answer_done_inv 1 made old new n (sym a) w in
+        let e : n ≡ length k.numbers = omega (arith, k.count) in (
+          k.is ∙ ap (λ (t : List ℕ). accept t) (sym (ap (λ (m : ℕ). take m new) e ∙ k.first)),
+          omega (arith, e, k.fits, ap length w ∙ buffer_long made old),
+        )
+    go (Err e) a = answer_refused_inv 1 (length old) made e.number e.line (sym a)
+
+-- the two programs, from the rows on
+module _ (rows new : List ℕ) (n : ℕ) (g : RowsMade (held 4000 (translation rows)) new n) where
+  pub plain_shown : (r : Result ℕ Refusal) (out : List ℕ)
+      → Shown (held 8192 (write_rows ours (take (n * 4) new))) r out → Shown (plain_text rows) r out
+  unfolding plain_text
+  plain_shown r out h = shown_as r out (of_rows g (λ plain. held 8192 (write_rows ours plain))) h
+
+  pub runs_shown : (m : ℕ) (out : List ℕ)
+      → (take m out ≡ run_line rows ++ run_line (take (n * 4) new)) × (m ≤ length out)
+      → Shown (run_lines rows) (Ok m) out
+  unfolding run_lines
+  runs_shown m out h = (
+    of_rows g (λ plain. accept (run_line rows ++ run_line plain)) ∙ ap (λ (t : List ℕ). accept t) (sym h.0),
+    h.1,
+  )
+
+module _ (rows old : List ℕ) (r : Result ℕ Refusal) (e : Refusal) (h : length old ≡ 4000)
+    (a : r ≡ answer 4 (translation rows) (length old)) (d : r ≡ Err e) where
+  pub plain_refused : plain_text rows ≡ refuse e.number e.line
+  unfolding plain_text
+  plain_refused = of_refusal (held_refused 4 4000 (translation rows) old r e h a d)
+      (λ plain. held 8192 (write_rows ours plain))
+
+  pub runs_refused : run_lines rows ≡ refuse e.number e.line
+  unfolding run_lines
+  runs_refused = of_refusal (held_refused 4 4000 (translation rows) old r e h a d)
+      (λ plain. accept (run_line rows ++ run_line plain))
+
+-- a refusal of what is held is the source's own
+pub source_refuse : (input old : List ℕ) (r : Result ℕ Refusal) (e : Refusal) → length old ≡ 2720
+    → r ≡ answer 4 (source_rows input) (length old) → r ≡ Err e → (k : List ℕ → Checked (List ℕ))
+    → bind_checked (source_rows input) k ≡ refuse e.number e.line
+source_refuse input old r e h a d k =
+    of_refusal (sym (source_again input) ∙ held_refused 4 2720 (source_rows input) old r e h a d) k
+
+-- ---- what is printed of it
+
+pub text_printed : (m : Checked (List ℕ)) (n : ℕ) (out : List ℕ) → Shown m (Ok n) out
+    → (take n out ≡ printed m) × (n ≤ length out)
+text_printed m n out h = (sym (ap (λ (x : Checked (List ℕ)). printed x) h.0), h.1)
+
+pub refusal_printed : (m : Checked (List ℕ)) (n l : ℕ) (t : List ℕ) → m ≡ refuse n l → t ≡ refusal_text n l
+    → t ≡ printed m
+refusal_printed m n l t e q = q ∙ sym (ap (λ (x : Checked (List ℕ)). printed x) e)
 
 -- two lines, one after the other
 pub both_shown : (old mid new xs ys : List ℕ) (then r : ℕ) → then ≡ 0 + length xs → r ≡ then + length ys
@@ -247,32 +238,16 @@ both_shown old mid new xs ys then r p q u v h =
 
 -- ---- the text handed over to the lent output
 
-module _ (aside old : List ℕ) (n : ℕ) (within : n ≤ length aside) where
-  -- no room: nothing is written
-  pub handed_short : length old < n
-      → (Refused 13 0 ≡ answer 1 (accept (take n aside)) (length old))
-      × (old ≡ buffer (accept (take n aside)) old)
-  handed_short l = answer_short 1 (take n aside) old (omega (arith, length-take-le n aside within, l))
-
-  -- copied: the text, then what was there past it
-  pub handed_done : n ≤ length old → (new : List ℕ) → new ≡ take n aside ++ drop n old
-      → (Done n ≡ answer 1 (accept (take n aside)) (length old))
-      × (new ≡ buffer (accept (take n aside)) old)
-  handed_done l new w =
-      let e : length (take n aside) ≡ n = length-take-le n aside within in
-      let a = answer_fits 1 (take n aside) old (omega (arith, e, l)) in
-      let d : n ≡ length (take n aside) / 1 = omega (arith, e) in
-      (ap Done d ∙ a.0, w ∙ ap (λ (k : ℕ). take n aside ++ drop k old) (sym e) ∙ a.1)
+-- copied: the text, then what was there past it
+pub handed : (text old new : List ℕ) → length text ≤ length old → new ≡ text ++ drop (length text) old
+    → (Ok (length text) ≡ answer 1 (accept text) (length old)) × (new ≡ buffer (accept text) old)
+handed text old new l w =
+    let a = answer_fits 1 text old l in
+    let d : length text ≡ length text / 1 = omega arith in
+    (ap (λ (n : ℕ). Ok n) d ∙ a.0, w ∙ a.1)
 
 -- what is handed over is what was to be printed
-pub handed_text : (aside text old new : List ℕ) (n : ℕ) (r : Filled) → take n aside ≡ text
-    → (r ≡ answer 1 (accept (take n aside)) (length old)) × (new ≡ buffer (accept (take n aside)) old)
+pub handed_text : (text text' old new : List ℕ) (r : Result ℕ Refusal) → text ≡ text'
     → (r ≡ answer 1 (accept text) (length old)) × (new ≡ buffer (accept text) old)
-handed_text aside text old new n r e h = rw e at h
-
--- the bytes that the answer counts are in the lent output
-pub counted_within : (m : Checked (List ℕ)) (old new : List ℕ) (r : Filled) (n : ℕ)
-    → (r ≡ answer 1 m (length old)) × (new ≡ buffer m old) → r ≡ Done n → n ≤ length new
-counted_within m old new r n h d =
-    let k = answer_done_inv 1 m old new n (sym h.0 ∙ d) h.1 in
-    omega (arith, k.count, k.fits, ap length h.1 ∙ buffer_long m old)
+    → (r ≡ answer 1 (accept text') (length old)) × (new ≡ buffer (accept text') old)
+handed_text text text' old new r e h = rw e at h

@@ -1,21 +1,20 @@
 // What the two programs read and print (document 01, "Worked programs"). Callers use `read_input`, which reads an input into a
 // lent buffer of any length, and `translate_input` and `run_input`, which take any input and a lent output of any length. The
-// other functions write into 8,192 bytes held aside, which are enough for every output.
+// other functions write into 8,192 bytes held aside, which are enough for every output. The two programs differ in what they make of
+// the rows of an input, which is a trait.
 #![tactic(auto)]
 
-ghost use Rattle.std.specs.Prelude.{◌≡◌, ◌++◌, ◌+◌, ◌≤◌, length, take};
+ghost use Rattle.std.specs.Prelude.{◌≡◌, ◌+◌, ◌≤◌, List, ℕ, length, take};
 ghost use Rattle.std.specs.Io.KnownBytes.{Consumes};
 ghost use Rattle.std.proofs.lemmas.List.Edits.{sets};
-ghost use Rattle.language.specs.Results.{accept};
-ghost use Rattle.language.specs.Filling.{held, answer, buffer};
-ghost use Rattle.language.specs.Alphabet.{ours};
-ghost use Rattle.language.specs.Texts.{write_rows};
+ghost use Rattle.language.specs.Results.{Checked, accept, bind_checked};
+ghost use Rattle.language.specs.Filling.{answer, buffer};
 ghost use Rattle.language.specs.Printed.{run_line, source_rows};
-ghost use Rattle.language.specs.Printed.{printed, plain_text, run_lines, translate_output};
-ghost use Rattle.language.specs.Printed.{run_output};
+ghost use Rattle.language.specs.Printed.{plain_text, run_lines, translate_output, run_output};
 ghost use Rattle.language.specs.Limits.{text_room, source_room};
+ghost use Rattle.console.specs.Shown.{Shown, output};
 
-use language::{Filled, ROOM_REFUSAL};
+use language::{NUMBERS_A_ROW, ROOM_REFUSAL, Refusal};
 use printing::{put_answer, put_refusal};
 use std::io::Read;
 
@@ -58,144 +57,123 @@ fn put_line(out: &mut [u8], at: usize, rows: &[u32]) -> usize
     put_answer(out, at, answer)
 }
 
+// The refusal of what has no room, on no line.
+const NO_ROOM: Refusal = Refusal {
+    number: ROOM_REFUSAL,
+    line: 0,
+};
+
 // Reads an input into rows.
-fn read_source(input: &[u8], rows: &mut [u32]) -> Filled
+fn read_source(input: &[u8], rows: &mut [u32]) -> Result<usize, Refusal>
     requires { length rows.old ≡ source_room }
     ensures { (result ≡ answer 4 (source_rows input.now) (length rows.old))
         × (rows.new ≡ buffer (source_rows input.now) rows.old) }
 {
     if TEXT_ROOM < input.len() {
-        return Filled::Refused(ROOM_REFUSAL, 0);
+        return Err(NO_ROOM);
     }
     reader::read_rows(input, rows)
 }
 
-// Writes the text of plain rows, or the line of the refusal.
-fn put_rows(plain: &[u32], out: &mut [u8]) -> usize
-    requires { length out.old ≡ text_room }
-    ensures { (take result out.new ≡ printed
-        (held text_room (write_rows ours plain.now)))
-        × (result ≤ length out.new) }
-{
-    let written = writer::write_text(plain, out);
-    match written {
-        Filled::Done(n) => n,
-        Filled::Refused(number, line) => put_refusal(out, 0, number, line),
+// What a program makes of the rows of its input.
+trait Program {
+    // The text, or a refusal.
+    ghost made: { List ℕ → Checked (List ℕ) };
+
+    // Writes the text into the bytes held aside, and returns its length.
+    fn write(rows: &[u32], out: &mut [u8]) -> Result<usize, Refusal>
+        requires { length out.old ≡ text_room }
+        ensures { Shown (made rows.now) result out.new };
+}
+
+// The translating program: the text of the plain rows.
+struct Translating;
+
+impl Program for Translating {
+    ghost made = { plain_text };
+
+    fn write(rows: &[u32], out: &mut [u8]) -> Result<usize, Refusal> {
+        let mut plain = [0u32; PLAIN_ROOM];
+        let n = translator::translate_rows(rows, &mut plain)?;
+        writer::write_text(&plain[..n * NUMBERS_A_ROW], out)
     }
 }
 
-// Translates rows, and writes the text of the plain rows.
-fn translate_source(rows: &[u32], out: &mut [u8]) -> usize
-    requires { length out.old ≡ text_room }
-    ensures { (take result out.new ≡ printed (plain_text rows.now)) ×
-        (result ≤ length out.new) }
-{
-    let mut plain = [0u32; PLAIN_ROOM];
-    let translated = translator::translate_rows(rows, &mut plain);
-    match translated {
-        Filled::Done(n) => {
-            let end = n * 4;
-            put_rows(&plain[..end], out)
-        }
-        Filled::Refused(number, line) => put_refusal(out, 0, number, line),
+// The running program: the line of the run, then that of the run of the plain rows.
+struct Running;
+
+impl Program for Running {
+    ghost made = { run_lines };
+
+    fn write(rows: &[u32], out: &mut [u8]) -> Result<usize, Refusal> {
+        let mut plain = [0u32; PLAIN_ROOM];
+        let n = translator::translate_rows(rows, &mut plain)?;
+        let then = put_line(out, 0, rows);
+        Ok(put_line(out, then, &plain[..n * NUMBERS_A_ROW]))
     }
 }
 
-// Writes the translating program's output for an input into the bytes held aside, and returns its length.
-fn translate_held(input: &[u8], out: &mut [u8]) -> usize
+// Writes what a program makes of the rows of an input.
+fn write_source<P: Program>(input: &[u8], out: &mut [u8]) -> Result<usize, Refusal>
     requires { length out.old ≡ text_room }
-    ensures { (take result out.new ≡ translate_output input.now) ×
-        (result ≤ length out.new) }
+    ensures { Shown (bind_checked (source_rows input.now) P.made) result out.new }
 {
     let mut rows = [0u32; SOURCE_ROOM];
-    let read = read_source(input, &mut rows);
-    match read {
-        Filled::Done(n) => {
-            let end = n * 4;
-            translate_source(&rows[..end], out)
-        }
-        Filled::Refused(number, line) => put_refusal(out, 0, number, line),
+    let n = read_source(input, &mut rows)?;
+    P::write(&rows[..n * NUMBERS_A_ROW], out)
+}
+
+// Writes a program's output for an input into the bytes held aside, and returns its length. A refusal has a line of its own.
+fn write_held<P: Program>(input: &[u8], out: &mut [u8]) -> usize
+    requires { length out.old ≡ text_room }
+    ensures { (take result out.new ≡ output P.made input.now) × (result ≤ length out.new) }
+{
+    match write_source::<P>(input, out) {
+        Ok(n) => n,
+        Err(r) => put_refusal(out, 0, r.number, r.line),
     }
 }
 
-// Writes the lines of two runs.
-fn put_both(rows: &[u32], plain: &[u32], out: &mut [u8]) -> usize
-    requires { length out.old ≡ text_room }
-    ensures { (take result out.new ≡ run_line rows.now ++ run_line
-        plain.now)
-        × (result ≤ length out.new) }
-{
-    let then = put_line(out, 0, rows);
-    put_line(out, then, plain)
-}
-
-// Translates rows, and writes the lines of their run and of the plain rows' run.
-fn run_source(rows: &[u32], out: &mut [u8]) -> usize
-    requires { length out.old ≡ text_room }
-    ensures { (take result out.new ≡ printed (run_lines rows.now)) ×
-        (result ≤ length out.new) }
-{
-    let mut plain = [0u32; PLAIN_ROOM];
-    let translated = translator::translate_rows(rows, &mut plain);
-    match translated {
-        Filled::Done(n) => {
-            let end = n * 4;
-            put_both(rows, &plain[..end], out)
-        }
-        Filled::Refused(number, line) => put_refusal(out, 0, number, line),
-    }
-}
-
-// Writes the running program's output for an input into the bytes held aside, and returns its length.
-fn run_held(input: &[u8], out: &mut [u8]) -> usize
-    requires { length out.old ≡ text_room }
-    ensures { (take result out.new ≡ run_output input.now) ×
-        (result ≤ length out.new) }
-{
-    let mut rows = [0u32; SOURCE_ROOM];
-    let read = read_source(input, &mut rows);
-    match read {
-        Filled::Done(n) => {
-            let end = n * 4;
-            run_source(&rows[..end], out)
-        }
-        Filled::Refused(number, line) => put_refusal(out, 0, number, line),
-    }
-}
-
-// Copies the first n bytes held aside to the lent output and returns n. Where they do not fit, returns refusal 13 and
+// Copies a text to the start of the lent output and returns its length. Where it does not fit, returns refusal 13 and
 // writes nothing.
-fn hand_over(aside: &[u8], n: usize, out: &mut [u8]) -> Filled
-    requires { n ≤ length aside.now }
-    ensures { (result ≡ answer 1 (accept (take n aside.now)) (length out.old))
-        × (out.new ≡ buffer (accept (take n aside.now)) out.old) }
+fn hand_over(text: &[u8], out: &mut [u8]) -> Result<usize, Refusal>
+    ensures { (result ≡ answer 1 (accept text.now) (length out.old))
+        × (out.new ≡ buffer (accept text.now) out.old) }
 {
-    if out.len() < n {
-        return Filled::Refused(ROOM_REFUSAL, 0);
+    if out.len() < text.len() {
+        return Err(NO_ROOM);
     }
-    fields::copy_bytes(aside, out, n);
-    Filled::Done(n)
+    out[..text.len()].copy_from_slice(text);
+    Ok(text.len())
+}
+
+// Writes a program's output for an input at the start of the lent output, and returns how many bytes that is.
+fn write_output<P: Program>(input: &[u8], out: &mut [u8]) -> Result<usize, Refusal>
+    ensures { (result ≡ answer 1 (accept (output P.made input.now)) (length out.old))
+        × (out.new ≡ buffer (accept (output P.made input.now)) out.old) }
+{
+    let mut aside = [0u8; TEXT_ROOM];
+    let n = write_held::<P>(input, &mut aside);
+    hand_over(&aside[..n], out)
 }
 
 // Writes the translating program's output for an input at the start of the lent output, and returns how many bytes that
 // is. Where it does not fit, returns refusal 13 and leaves the lent output unchanged.
-pub fn translate_input(input: &[u8], out: &mut [u8]) -> Filled
+#[tactic(auto, unfolding(language::specs::Printed::translate_output))]
+pub fn translate_input(input: &[u8], out: &mut [u8]) -> Result<usize, Refusal>
     ensures { (result ≡ answer 1 (accept (translate_output input.now))
         (length out.old))
         × (out.new ≡ buffer (accept (translate_output input.now)) out.old) }
 {
-    let mut aside = [0u8; TEXT_ROOM];
-    let n = translate_held(input, &mut aside);
-    hand_over(&aside, n, out)
+    write_output::<Translating>(input, out)
 }
 
 // Writes the running program's output for an input at the start of the lent output, and returns how many bytes that is.
 // Where it does not fit, returns refusal 13 and leaves the lent output unchanged.
-pub fn run_input(input: &[u8], out: &mut [u8]) -> Filled
+#[tactic(auto, unfolding(language::specs::Printed::run_output))]
+pub fn run_input(input: &[u8], out: &mut [u8]) -> Result<usize, Refusal>
     ensures { (result ≡ answer 1 (accept (run_output input.now)) (length out.old))
         × (out.new ≡ buffer (accept (run_output input.now)) out.old) }
 {
-    let mut aside = [0u8; TEXT_ROOM];
-    let n = run_held(input, &mut aside);
-    hand_over(&aside, n, out)
+    write_output::<Running>(input, out)
 }

@@ -5,24 +5,23 @@ ghost use Rattle.std.specs.Prelude.{◌*◌, ◌≤◌, length, take};
 ghost use Rattle.running.specs.Answers.{Answers};
 ghost use Rattle.demands.specs.Both.{RunsBoth};
 
-use language::Filled;
-use running::Answer;
+use language::{NUMBERS_A_ROW, Refusal};
+use machine::Run;
 
 // How the rows ran, and how their plain rows ran; where they have none, the translator's refusal.
 #[derive(Drop)]
 pub struct Both {
-    pub source: Answer,
-    pub plain: Answer,
+    pub source: Result<Run, Refusal>,
+    pub plain: Result<Run, Refusal>,
 }
 
 // The run of the plain rows that stand at the start of a buffer.
-fn run_plain(plain: &[u32], count: usize, store: &mut [u32], fuel: u64) -> Answer
+fn run_plain(plain: &[u32], count: usize, store: &mut [u32], fuel: u64) -> Result<Run, Refusal>
     requires { count * 4 ≤ length plain.now }
     ensures { Answers (take (count * 4) plain.now) fuel store.old
         store.new result }
 {
-    let end = count * 4;
-    runner::run_rows(&plain[..end], store, fuel)
+    runner::run_rows(&plain[..count * NUMBERS_A_ROW], store, fuel)
 }
 
 // Runs rows, translates them, and runs the plain rows.
@@ -38,18 +37,14 @@ pub fn run_both(
         plain.old plain.new plain_store.old plain_store.new result }
 {
     let source = runner::run_rows(rows, store, fuel);
-    let translated = translator::translate_rows(rows, plain);
-    match translated {
-        Filled::Done(count) => {
-            let second = run_plain(plain, count, plain_store, plain_fuel);
-            Both {
-                source,
-                plain: second,
-            }
-        }
-        Filled::Refused(number, line) => Both {
+    match translator::translate_rows(rows, plain) {
+        Ok(count) => Both {
             source,
-            plain: Answer::Refused(number, line),
+            plain: run_plain(plain, count, plain_store, plain_fuel),
+        },
+        Err(refusal) => Both {
+            source,
+            plain: Err(refusal),
         },
     }
 }

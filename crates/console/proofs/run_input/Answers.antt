@@ -1,7 +1,0 @@
--- `console::run_input` meets its contract. Assumes nothing.
-use Rattle.console.proofs.Showing.{handed_text}
-use Rattle.console.proofs.run_input.Goals as goal
-
-pub returns : goal.returns
-returns c = handed_text c.run_held-n.new.out _ c.args.out.now _ c.run_held-n.result
-    c.hand_over.result c.run_held-n.ensures.0 c.hand_over.ensures
