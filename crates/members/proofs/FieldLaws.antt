@@ -138,20 +138,6 @@ module _ {R T₀ : List ℕ} {r n base count : ℕ} (w : FieldsReady R T₀ r n 
     pub all : before ++ rest ≡ w.fields ++ w.own
     pub all_rows : rows ++ rows_from at rest ≡ w.rows ++ rows_from r w.own
 
-  pub fielding_start : Fielding T₀ r
-  fielding_start = record {
-    before = w.fields;
-    rows = w.rows;
-    rest = w.own;
-    here = w.here;
-    in_form = w.in_form;
-    sum = omega (arith, w.n_is);
-    working = w.working;
-    answer = refl;
-    all = refl;
-    all_rows = refl;
-  }
-
   module _ {T : List ℕ} {at : ℕ} (p : Fielding T at) where
     module _ (l : at < r + n) where
       pub next : Next (FieldRow R) p.rest at

@@ -104,9 +104,6 @@ module _ {R : List ℕ} {r n : ℕ} (w : EffectLines R r n) where
       pub sum : at + length rest ≡ r + n
       pub left : check_effects of_check P 0 (r + 1) w.effects ≡ check_effects of_check P last (at + 1) rest
 
-    pub effecting_start : Effecting 0 r
-    effecting_start = record { rest = w.effects; here = w.here; sum = omega (arith, w.n_is); left = refl }
-
     module _ (last at : ℕ) (p : Effecting last at) (l : at < r + n) (c : ℕ) (c-is : c ≡ get_or R (at * 4 + 1) 0)
       where
         effect_next : Next (EffectRow R) p.rest at
@@ -169,15 +166,6 @@ module _ {R : List ℕ} {r n : ℕ} (w : ClassLines R r n) where
     pub small : (i c : ℕ) → nth rest i ≡ some c → c ≤ of_check.classes
     pub so_far : bit_or set (effect_of_all rest) ≡ effect_of_all w.lines.effects
 
-  pub collecting_start : Collecting 0 r
-  collecting_start = record {
-    rest = w.lines.effects;
-    here = w.lines.here;
-    sum = omega (arith, w.lines.n_is);
-    small = w.small;
-    so_far = refl;
-  }
-
   module _ (set at : ℕ) (p : Collecting set at) (l : at < r + n) where
     class_next : Next (EffectRow R) p.rest at
     class_next = next_line (EffectRow R) p.rest at p.here (omega (arith, l, p.sum))
@@ -230,15 +218,6 @@ module _ {R : List ℕ} {r n : ℕ} (w : ParameterLines R r n) where
     pub left : check_parameters of_check P (r + 1) w.types ≡ check_parameters of_check P (at + 1) rest
 
   module _ (P : List Class) where
-    pub declaring_start : Declaring P r
-    declaring_start = record {
-      rest = w.types;
-      here = w.here;
-      in_form = w.in_form;
-      sum = omega (arith, w.n_is);
-      left = refl;
-    }
-
     module _ (at : ℕ) (p : Declaring P at) (l : at < r + n) (t : ℕ) (t-is : t ≡ get_or R (at * 4 + 1) 0) where
       type_next : Next (TypeRow R) p.rest at
       type_next = next_line (TypeRow R) p.rest at p.here (omega (arith, l, p.sum))

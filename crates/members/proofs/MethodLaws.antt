@@ -18,7 +18,6 @@ use Rattle.language.specs.MethodTables.{placed_methods}
 use Rattle.language.specs.Layout.{MethodAt}
 use Rattle.language.proofs.Methods.{FoundMethod, method_found}
 use Rattle.layout.specs.Found.{MethodHere, method_here, found_number, found_none}
-use Rattle.layout.specs.HeadingRuns.{effects_run}
 use Rattle.members.specs.Faults.{fault_of_method}
 use Rattle.members.specs.Numbers.{own_or}
 use Rattle.members.specs.Ready.{EffectLines, ParameterLines, OverrideReady, MethodLine, MethodCounted}
@@ -61,13 +60,6 @@ module _ {R M F : List ℕ} {r np nx n : ℕ} (w : OverrideReady R M F r np nx n
         omega (arith, l, w.entered.long_effects),
         over_at.line.within,
       )
-
-  pub own_within : (r * 4 + 3 < length R) × ((r + 1 + np) * 4 + 3 < length R) × (length R ≤ 240000)
-  own_within = (
-    w.at.line.within,
-    omega (arith, w.np_is, (effects_run w.at w.in_form).inside),
-    w.standing.short,
-  )
 
   tests : may_override w.method (some w.found)
       ≡ same_type w.method.result d.result && (same_types w.method.parameters d.parameters

@@ -97,9 +97,6 @@ module _ {T : List ℕ} {count : ℕ} (w : EffectReady T count) (c last : ℕ) w
   effect_undeclared l = rw (lt-leb c (length w.P) (omega (arith, l, w.count_is)))
 
   module _ (l : c ≤ count) where
-    pub effect_index : c * 576 + 575 < length T
-    effect_index = kind_index w.lookups c (omega (arith, l, w.count_is))
-
     declared-effect : fault_of_effect w.P last c
         ≡ cond (eqb (get_or T (c * 576 + 512) 0) 1 && ltb last c) 0 5
     unfolding fault_of_effect world world_with
