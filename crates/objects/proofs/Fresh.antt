@@ -23,7 +23,6 @@ use Rattle.objects.specs.Values.{bare, answer, answered}
 use Rattle.objects.specs.Holding.{Sound, Holding}
 use Rattle.objects.specs.Acts.{Stored, Acts, first_of, Fill, Filled, PreNew, PostNew}
 use Rattle.objects.proofs.Values.{value_of_value_number, outcome_value, meaning_object, meaning_word}
-use Rattle.objects.proofs.Values.{meaning_null}
 use Rattle.objects.specs.Holding.{first_value_of}
 use Rattle.objects.specs.Acts.{field_type_in}
 use Rattle.objects.specs.Values.{word, meaning, Small}
@@ -325,6 +324,3 @@ first_written R T c i count w h e =
 
 pub first_is_word : (t w : ℕ) → w ≡ word (first_value_of t) → Small (meaning w)
 first_is_word t w e = rw (e, meaning_word (first_value_of t) (first_small t)) (first_small t)
-
-pub null_written : value_number (meaning 0) ≡ 0
-null_written = ap value_number meaning_null

@@ -3,7 +3,7 @@ use Rattle.language.specs.Limits.{object_width}
 use mathlib.Core.Path.{◌≡◌, refl, sym, ap, ◌∙◌}
 use mathlib.Core.Bool.{Bool, true, false, cond}
 use lib.Dec.{eqb, leb, ltb}
-use borrow.Author.Tests.{le-leb, lt-leb, ltb-true, ltb-false, lt-ltb, le-ltb, ne_eqb}
+use borrow.Author.Tests.{le-leb, lt-leb, ltb-true, ltb-false, ne_eqb}
 use mathlib.Core.Logic.{◌⊎◌, inl, inr}
 use mathlib.Core.List.{List}
 use Prim.Native.Nat.{ℕ, zero, suc, ◌+◌, ◌-◌, ◌*◌, ◌/◌, ◌%◌, ◌≤◌, ◌<◌}
@@ -91,10 +91,6 @@ kind_other w a b = go (w / 4294967296) a b
     go (suc (suc zero)) a b = absurd (b refl)
     go (suc (suc (suc k))) a b = refl
 
-pub object_case : (j : ℕ) → (j ≡ 0 → ⊥) → Object j ≡ case_of (numbered j)
-object_case zero h = absurd (h refl)
-object_case (suc j) h = refl
-
 -- ---- cases
 
 pub case_null : (m : Meaning) → case_of m ≡ Null → m ≡ null
@@ -111,19 +107,6 @@ pub case_object : (m : Meaning) {j : ℕ} → case_of m ≡ Object j → (i : �
 case_object null e = let z : ◌≡◌ {A = ℕ} 0 1 = cc in absurd (omega arith)
 case_object (truth b) e = let z : ◌≡◌ {A = ℕ} 0 1 = cc in absurd (omega arith)
 case_object (object i) {j} e = let z : j ≡ suc i = cc in (i, refl, z)
-
--- the cases of a stored number
-pub stored_null : (n : ℕ) → (n ≡ 1 → ⊥) → (n ≡ 2 → ⊥) → n < 3 → Null ≡ case_of (value_of_number n)
-stored_null zero a b h = refl
-stored_null (suc zero) a b h = absurd (a refl)
-stored_null (suc (suc zero)) a b h = absurd (b refl)
-stored_null (suc (suc (suc n))) a b h = absurd (omega arith)
-
-pub stored_object : (n : ℕ) → 3 ≤ n → Object (n - 2) ≡ case_of (value_of_number n)
-stored_object n h =
-    let e : n ≡ suc (suc (suc (n - 3))) = omega arith in
-    let z : n - 2 ≡ suc (n - 3) = omega arith in
-    ap Object z ∙ ap (λ (k : ℕ). case_of (value_of_number k)) (sym e)
 
 -- what a value leads to
 pub reached_null : (made : ℕ) (m : Meaning) → ReachedNull ≡ reached made m → m ≡ null
@@ -146,45 +129,11 @@ reached_at made (object j) o e = go (ltb j made) refl e
     go true q e = (j, refl, ltb-true j made q, cc)
     go false q e = cc
 
--- the index of an object that is there
-pub reached_object : {made j : ℕ} (m : Meaning) → case_of m ≡ Object j → j ≤ made
-    → (1 ≤ j) × (At ((j - 1) * object_width) ≡ reached made m)
-reached_object {made} {j} m e h =
-    let x = case_object m e in
-    let z : j - 1 ≡ x.0 = omega (arith, x.2) in
-    (omega (arith, x.2), rw (x.1, z, lt-ltb x.0 made (omega (arith, x.2))))
-
-pub reached_past : {made j : ℕ} (m : Meaning) → case_of m ≡ Object j → made < j → Nothing ≡ reached made m
-reached_past {made} m e h = let x = case_object m e in rw (x.1, le-ltb x.0 made (omega (arith, x.2)))
-
-pub null_reached : (made : ℕ) (m : Meaning) → case_of m ≡ Null → ReachedNull ≡ reached made m
-null_reached made m e = rw (case_null m e)
-
-pub truth_reached : (made : ℕ) (m : Meaning) {b : Bool} → case_of m ≡ Truth b → Nothing ≡ reached made m
-truth_reached made m e = rw (case_truth m e)
-
--- a value's word and its stored number, by its case
-pub null_word : (m : Meaning) → case_of m ≡ Null → 0 ≡ word m
-null_word m e = rw (case_null m e)
-
 pub truth_word : (m : Meaning) {b : Bool} {r : ℕ} → case_of m ≡ Truth b → r ≡ word (truth b) → r ≡ word m
 truth_word m e f = f ∙ ap word (sym (case_truth m e))
 
-pub object_word : (m : Meaning) {j : ℕ} → case_of m ≡ Object j → 8589934592 + j ≡ word m
-object_word m e = let x = case_object m e in rw x.1 (omega (arith, x.2))
-
-pub null_stored : (m : Meaning) → case_of m ≡ Null → 0 ≡ value_number m
-null_stored m e = rw (case_null m e)
-
-pub truth_stored : (m : Meaning) {b : Bool} {r : ℕ} → case_of m ≡ Truth b → r ≡ value_number (truth b)
-    → r ≡ value_number m
-truth_stored m e f = f ∙ ap value_number (sym (case_truth m e))
-
 pub object_stored : (m : Meaning) {j : ℕ} → case_of m ≡ Object j → j + 2 ≡ value_number m
 object_stored m {j} e = let x = case_object m e in rw x.1 (omega (arith, x.2))
-
-pub object_small : (m : Meaning) {j : ℕ} → case_of m ≡ Object j → Small m → j + 2 < 4294967296
-object_small m e h = omega (arith, object_stored m e, h)
 
 -- a truth value, or an object that is not there
 pub data NoObject (made : ℕ) : Meaning → Type 0 where
@@ -367,12 +316,3 @@ failure_raised n h k = rw (ne_eqb n 0 (λ e. omega arith), le-leb n 2 k)
 
 pub failure_stopped : (n : ℕ) → 3 ≤ n → failure n ≡ Stopped n
 failure_stopped n h = rw (ne_eqb n 0 (λ e. omega arith), lt-leb n 2 h)
-
--- the failures that there are have small numbers
-pub failure_low : (x : ℕ) → 17179869184 ≤ x → SmallOutcome (outcome x) → x ≤ 17179869200
-failure_low x h m = go (lt_or (x - 17179869184) 3)
-  where
-    go : (x - 17179869184 < 3) ⊎ (3 ≤ x - 17179869184) → x ≤ 17179869200
-    go (inl a) = omega arith
-    go (inr a) = let z = rw (outcome_failure x h ∙ failure_stopped (x - 17179869184) a) at m in
-        omega (arith, z)
