@@ -17,17 +17,6 @@ use Rattle.bodies.specs.Whole.{Spacious}
 use Rattle.language.specs.declared.Refusal.{Refusal}
 use Rattle.passes.specs.Answers.{checked_case}
 
--- Tables come in sizes: for the numbers of at most 32 rows, of at most 1,024, and of more; for at most 7 classes, and for
--- more.
-abbrev pub short_numbers : ℕ
-short_numbers = 128
-
-abbrev pub few_numbers : ℕ
-few_numbers = 4096
-
-abbrev pub few_classes : ℕ
-few_classes = 7
-
 -- No size needs more slots than 256 for each of 128 levels of nesting, and as many again.
 abbrev pub most_slots : ℕ
 most_slots = 33024
