@@ -106,7 +106,26 @@ module _ (R : List ℕ) where
 
 -- ---- room
 
+-- New tables are long enough.
 module _ (R : List ℕ) where
+  module _ (whole : length R % 4 ≡ 0) where
+    new-room : (rows numbers : ℕ) → (length R ≤ 4 * rows) ⊎ (60000 ≤ rows)
+        → (length R * 4 ≤ 12 * numbers) ⊎ (80000 ≤ numbers)
+        → Room R (replicate rows 0) (replicate numbers 0)
+    new-room rows numbers a b =
+        let e = length-replicate {A = ℕ} rows 0 in
+        let m = length-replicate {A = ℕ} numbers 0 in
+        record { whole = whole; room = rw e a; methods = rw m b }
+
+    pub room_short : length R ≤ 128 → Room R (replicate 32 0) (replicate 44 0)
+    room_short l = new-room 32 44 (inl (omega (arith, l))) (inl (omega (arith, l)))
+
+    pub room_few : length R ≤ 4096 → Room R (replicate 1024 0) (replicate 1368 0)
+    room_few l = new-room 1024 1368 (inl (omega (arith, l))) (inl (omega (arith, l)))
+
+    pub room_many : Room R (replicate 60000 0) (replicate 80000 0)
+    room_many = new-room 60000 80000 (inr (omega arith)) (inr (omega arith))
+
   -- Effects and slots of the check: 256 slots for each of 128 levels of nesting and as many again; of at most 32 rows, 32.
   body_room : (methods width depth slots : ℕ) → (length R ≤ 12 * methods) ⊎ (20000 ≤ methods)
       → (256 ≤ width) ⊎ (length R ≤ 4 * width) → (128 ≤ depth) ⊎ (length R ≤ 4 * depth) → 8 ≤ width
