@@ -7,7 +7,8 @@ ghost use Rattle.fleet.specs.Fleet.{fleet_report, models_report};
 ghost use Rattle.packing.specs.Packed.{packed_count, printed_after, spoiled_after, report_number};
 ghost use Rattle.packing.specs.Packed.{report_told};
 
-use telling::fleets::{pack_count, tell_labels, tell_report};
+use telling::fleets::{tell_labels, tell_report};
+use telling::words::pack;
 
 // Counts the labels of a run. A refused one leaves the counts as they were.
 #[unsafe(no_mangle)]
@@ -27,9 +28,9 @@ pub extern "C" fn fickle_count_run(
     ensures spoiled_labels_after { spoiled_labels.new ≡ spoiled_after (count_told (run_counts rows.now
         store.now objects printed spoiled)) spoiled_labels.old }
 {
-    let c = counting::count_run(rows, store, objects, printed, spoiled);
-    tell_labels(c, printed_labels, spoiled_labels);
-    pack_count(c)
+    let count = counting::count_run(rows, store, objects, printed, spoiled);
+    tell_labels(count, printed_labels, spoiled_labels);
+    pack(count.map(|_| 0))
 }
 
 // Counts the labels of a run through the store that its plain run left.
@@ -52,9 +53,9 @@ pub extern "C" fn fickle_count_plain_run(
         (count_told (counts_through rows.now
         store.now objects printed spoiled)) spoiled_labels.old }
 {
-    let c = counting::count_plain_run(rows, store, objects, printed, spoiled);
-    tell_labels(c, printed_labels, spoiled_labels);
-    pack_count(c)
+    let count = counting::count_plain_run(rows, store, objects, printed, spoiled);
+    tell_labels(count, printed_labels, spoiled_labels);
+    pack(count.map(|_| 0))
 }
 
 // The report over counted lines. Stores how many bytes were written, or a refusal's line, and returns its number.
@@ -66,8 +67,7 @@ pub extern "C" fn fickle_rank_models(counts: &[u32], report: &mut [u8], told: &m
         (length report.old)) }
     ensures report_after { report.new ≡ buffer (models_report counts.now) report.old }
 {
-    let r = ranking::rank_models(counts, report);
-    tell_report(r, told)
+    tell_report(ranking::rank_models(counts, report), told)
 }
 
 // The report over a fleet of ended runs, answered in the same way.
@@ -87,6 +87,5 @@ pub extern "C" fn fickle_report_fleet(
     ensures report_after { report.new ≡ buffer (fleet_report runs.now programs.now
         stores.now) report.old }
 {
-    let r = ranking::report_fleet(runs, programs, stores, report);
-    tell_report(r, told)
+    tell_report(ranking::report_fleet(runs, programs, stores, report), told)
 }

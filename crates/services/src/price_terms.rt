@@ -7,7 +7,7 @@ ghost use Rattle.prices.specs.Reports.{price_report};
 ghost use Rattle.packing.specs.Packed.{packed, packed_day, packed_date, year_after, month_after};
 ghost use Rattle.packing.specs.Packed.{day_after, TellsPrice};
 
-use telling::price_terms::{pack_day, tell_date, tell_price};
+use telling::price_terms::{tell_date, tell_price};
 use telling::words::pack;
 
 // The number of the day that has a date.
@@ -15,7 +15,7 @@ use telling::words::pack;
 pub extern "C" fn fickle_day_of_date(year: u32, month: u32, day: u32) -> u64
     ensures { result ≡ packed_day (day_answer year month day) }
 {
-    pack_day(calendar::day_of_date(year, month, day))
+    pack(calendar::day_of_date(year, month, day).map(u64::from))
 }
 
 // The date of a day. A refusal leaves the three numbers as they were.
@@ -31,8 +31,7 @@ pub extern "C" fn fickle_date_of_day(
     ensures month_after { month.new ≡ month_after (date_answer day) month.old }
     ensures of_month_after { of_month.new ≡ day_after (date_answer day) of_month.old }
 {
-    let a = calendar::date_of_day(day);
-    tell_date(a, year, month, of_month)
+    tell_date(calendar::date_of_day(day), year, month, of_month)
 }
 
 // The price of a model on a day, and the line of its term. Both stay as they were where there is none.
@@ -47,8 +46,7 @@ pub extern "C" fn fickle_price_on_day(
     ensures { TellsPrice (price_on_day terms.now model day) result cents.old
         cents.new line.old line.new }
 {
-    let a = pricing::price_on_day(terms, model, day);
-    tell_price(a, cents, line)
+    tell_price(pricing::price_on_day(terms, model, day), cents, line)
 }
 
 // The price of a model on a date, returned in the same way.
@@ -66,8 +64,11 @@ pub extern "C" fn fickle_price_on_date(
         cents.old
         cents.new line.old line.new }
 {
-    let a = pricing::price_on_date(terms, model, year, month, day);
-    tell_price(a, cents, line)
+    tell_price(
+        pricing::price_on_date(terms, model, year, month, day),
+        cents,
+        line,
+    )
 }
 
 // The report of a model's prices in a month.
@@ -84,5 +85,5 @@ pub extern "C" fn fickle_report_prices(
     ensures report_after { report.new ≡ buffer (price_report terms.now model year month)
         report.old }
 {
-    pack(pricing::report_prices(terms, model, year, month, report))
+    pack(pricing::report_prices(terms, model, year, month, report).map(|n| n as u64))
 }

@@ -7,7 +7,6 @@ ghost use Rattle.language.specs.Alphabet.{ours};
 ghost use Rattle.language.specs.Texts.{read_text, write_rows};
 ghost use Rattle.packing.specs.Packed.{packed, packed_verdict};
 
-use telling::programs::pack_verdict;
 use telling::words::pack;
 
 // Reads a text into rows.
@@ -16,7 +15,7 @@ pub extern "C" fn fickle_read_rows(text: &[u8], rows: &mut [u32]) -> u64
     ensures { (result ≡ packed (answer 4 (read_text ours text.now) (length rows.old)))
         × (rows.new ≡ buffer (read_text ours text.now) rows.old) }
 {
-    pack(reader::read_rows(text, rows))
+    pack(reader::read_rows(text, rows).map(|n| n as u64))
 }
 
 // Writes rows as text.
@@ -26,7 +25,7 @@ pub extern "C" fn fickle_write_text(rows: &[u32], text: &mut [u8]) -> u64
         (length text.old)))
         × (text.new ≡ buffer (write_rows ours rows.now) text.old) }
 {
-    pack(writer::write_text(rows, text))
+    pack(writer::write_text(rows, text).map(|n| n as u64))
 }
 
 // Checks rows.
@@ -34,7 +33,7 @@ pub extern "C" fn fickle_write_text(rows: &[u32], text: &mut [u8]) -> u64
 pub extern "C" fn fickle_check_rows(rows: &[u32]) -> u64
     ensures { result ≡ packed_verdict (verdict rows.now) }
 {
-    pack_verdict(checker::check_rows(rows))
+    pack(checker::check_rows(rows).map(|()| 0))
 }
 
 // Translates rows into plain rows.
@@ -43,5 +42,5 @@ pub extern "C" fn fickle_translate_rows(rows: &[u32], plain: &mut [u32]) -> u64
     ensures { (result ≡ packed (answer 4 (translation rows.now) (length plain.old)))
         × (plain.new ≡ buffer (translation rows.now) plain.old) }
 {
-    pack(translator::translate_rows(rows, plain))
+    pack(translator::translate_rows(rows, plain).map(|n| n as u64))
 }

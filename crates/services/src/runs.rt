@@ -32,8 +32,8 @@ pub extern "C" fn fickle_run_rows(
     ensures changes_after { changes.new ≡ changes_after
         (run_of rows.now fuel store.old).answer changes.old }
 {
-    let a = runner::run_rows(rows, store, fuel);
-    tell_value(a, kind, content);
-    tell_counts(a, steps, objects, changes);
-    pack_run(a)
+    let answer = runner::run_rows(rows, store, fuel);
+    tell_value(answer, kind, content);
+    tell_counts(answer, steps, objects, changes);
+    pack_run(answer)
 }

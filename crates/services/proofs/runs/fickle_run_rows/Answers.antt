@@ -1,11 +1,11 @@
 -- `services::runs::fickle_run_rows` meets its contract. Assumes nothing.
 use mathlib.Core.Path.{◌∙◌}
 use Rattle.language.specs.Store.{run_of}
-use Rattle.telling.proofs.Telling.{number_is, kind_is, content_is, steps_is, objects_is, changes_is}
+use Rattle.services.proofs.Telling.{number_is, kind_is, content_is, steps_is, objects_is, changes_is}
 use Rattle.services.proofs.runs.fickle_run_rows.Goals as goal
 
 pub returns : goal.returns
-returns c = let ran = c.run_rows-a.ensures in
+returns c = let ran = c.run_rows-answer.ensures in
     let value = c.tell_value.ensures in
     let counts = c.tell_counts.ensures in
     let of-run = (run_of c.args.rows.now c.args.fuel c.args.store.now).answer in record {
