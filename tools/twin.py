@@ -5,7 +5,7 @@
   tools/twin.py write     only write it
 
 The twin is Rust made from the Rattle sources of the crates that `services` is built from, one module for each crate. Contracts,
-ghost imports and comments are dropped, a path `a::b` becomes `crate::a::b`, and each struct and enum may be copied; every
+ghost imports, ghost members and comments are dropped, a path `a::b` becomes `crate::a::b`, and each struct and enum may be copied; every
 statement stays as it is. There are three crates of it, which differ in what is checked while the code runs:
 
   unchecked   nothing: each index is `get_unchecked`. Only the proof makes this safe; it is here to be measured
@@ -32,8 +32,12 @@ VARIANTS = [UNCHECKED, TWIN, GUARDED]
 MODULE = re.compile(r'^(?<!#\[cfg\(test\)\]\n)mod (\w+);$', re.M)
 ALLOWED = '#![allow(warnings)]\n'
 CONTRACT = re.compile(r'\b(requires|ensures)(\s+\w+)?\s*\{')
-# What asks the check for tactics, names a cycle or derives: the twin has derives of its own.
-ATTRIBUTE = re.compile(r'^#!?\[(?:tactic|cycle|derive)\b[^\n]*\]\n+', re.M)
+# A member of a struct, a trait or an impl that is for proofs alone, up to its braces.
+GHOST = re.compile(r'^ *(?:pub )?ghost \w+\s*[:=]\s*\{', re.M)
+# What asks the check for tactics or names a cycle.
+ATTRIBUTE = re.compile(r'^ *#!?\[(?:tactic|cycle)\b[^\]]*\]\n+', re.M)
+# The derives of a struct or an enum, where it has any: the twin may always copy it, and Rust has no derive of Drop.
+DERIVED = re.compile(r'^(?:#\[derive\(([^)]*)\)\]\n)?((?:pub )?(?:struct|enum) )', re.M)
 # What may not be left in the Rust text.
 LEFT_OVER = re.compile(r'[^\x00-\x7f]|\b(ghost|requires|ensures|invariant|decreases)\b')
 # A service under its C name, and the declarations of all of them in fickle/src/lib.rs.
@@ -113,6 +117,20 @@ def without_contracts(text):
     return text
 
 
+def derived(found):
+    names = [name for name in (found[1] or '').split(', ') if name not in ('', 'Clone', 'Copy', 'Drop')]
+    return f'#[derive({", ".join(["Clone", "Copy"] + names)})]\n{found[2]}'
+
+
+def without_ghosts(text):
+    ghost = GHOST.search(text)
+    while ghost:
+        end = closing(text, ghost.end() - 1)
+        text = text[:ghost.start()] + text[end + 1:].lstrip(';,\n')
+        ghost = GHOST.search(text)
+    return text
+
+
 def without_checks(text):
     """Turns each `name[index]` into an access that is not checked; a slice `name[a..b]` stays."""
     result, at = '', 0
@@ -145,9 +163,9 @@ def rust_of(file, crates):
     text = re.sub(r'//.*', '', text)
     text = re.sub(r'^ghost use [^;]*;\n', '', text, flags=re.M)
     text = ATTRIBUTE.sub('', text)
-    text = without_contracts(text)
+    text = without_ghosts(without_contracts(text))
     text = re.sub(rf'(?<![\w:])({"|".join(crates)})::', r'crate::\1::', text)
-    text = re.sub(r'^(pub )?(struct|enum) ', r'#[derive(Clone, Copy)]\n\g<0>', text, flags=re.M)
+    text = DERIVED.sub(derived, text)
     text = SERVICE.sub(r'#[inline(never)]\npub fn \1(\2) -> \3', text)
     left = LEFT_OVER.search(text)
     if left:
