@@ -132,7 +132,7 @@ fn price_within(terms: &[u8], model: u32, day: u32) -> Result<Option<Price>, Ref
     requires { day ≤ last_day }
     ensures { result ≡ told_price (term_on terms.now model (accept day)) }
 {
-    let table = terms::scan_terms(
+    let scanned = terms::scan_terms(
         terms,
         model,
         Days {
@@ -140,7 +140,7 @@ fn price_within(terms: &[u8], model: u32, day: u32) -> Result<Option<Price>, Ref
             count: 1,
         },
     )?;
-    Ok(price_kept(table[0]))
+    Ok(price_kept(scanned.table[0]))
 }
 
 // The price of a model on a day.
@@ -176,8 +176,8 @@ fn report_days(terms: &[u8], model: u32, days: Days, report: &mut [u8]) -> Resul
         × (report.new ≡ buffer (days_report terms.now model (accept (days_from days.first days.count)))
         report.old) }
 {
-    let table = terms::scan_terms(terms, model, days)?;
-    write_report(&table, days, report)
+    let scanned = terms::scan_terms(terms, model, days)?;
+    write_report(&scanned.table, days, report)
 }
 
 // The report of a model and a month.

@@ -2,7 +2,7 @@
 use mathlib.Core.Path.{◌≡◌, refl, sym, ap, ◌∙◌}
 use mathlib.Core.Bool.{true, false}
 use mathlib.Core.List.{List, [], ◌∷◌, ◌++◌}
-use Prim.Native.Nat.{ℕ, ◌+◌, ◌/◌, ◌%◌, ◌≤◌, ◌<◌}
+use Prim.Native.Nat.{ℕ, ◌+◌, ◌/◌, ◌%◌, ◌≤◌, ◌<◌, ◌-◌}
 use native.Mathlib.Omega.{arith}
 use lib.ListN.{length, drop, get_or, set, length-append, length-drop}
 use Rattle.language.specs.Effects.{join, effect_of}
@@ -47,8 +47,9 @@ module _ {text : List ℕ} {model day count : ℕ} {marks : List ℕ} {table : L
   pub scan_line : (1 ≤ line) × (line ≤ 65537)
   scan_line = let few = seen_few p.good in (omega (arith, p.here), omega (arith, p.here, few))
 
-  pub scan_done : length text ≤ at → RuledBy text model day count (Ok table)
-  scan_done h = (p.seen, p.left ∙ terms_end p.seen at text h, p.ruled)
+  pub scan_done : length text ≤ at
+      → RuledBy text model day count (Ok (record { terms = line - 1; table = table }))
+  scan_done h = (p.seen, p.left ∙ terms_end p.seen at text h, omega (arith, p.here), p.ruled)
 
   refused : (number : ℕ) → terms_after p.seen 0 (drop at text) ≡ refuse number (next_line p.seen)
       → RuledBy text model day count (Err (refusal number line))

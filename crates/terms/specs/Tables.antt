@@ -7,6 +7,7 @@ use Rattle.language.specs.Limits.{largest}
 use Rattle.language.specs.Results.{accept, refuse}
 use Rattle.language.specs.declared.Refusal.{Refusal}
 use Rattle.terms.specs.declared.Entry.{Entry}
+use Rattle.terms.specs.declared.Scanned.{Scanned}
 use Rattle.prices.specs.Terms.{Term, is_signed, terms_of}
 use Rattle.prices.specs.Prices.{ruling}
 
@@ -40,8 +41,9 @@ pub record Ruled (model first count : ℕ) (table : List (Kept Entry)) (ts : Lis
   pub long : length table ≡ most_days
   pub each : (i : ℕ) → i < count → get_or table i None ≡ kept (ruling model (first + i) ts)
 
--- What is told of the terms of a text: a table of those that rule a model on some days, or their refusal.
-abbrev pub RuledBy : List ℕ → ℕ → ℕ → ℕ → Result (List (Kept Entry)) Refusal → Type 0
-RuledBy text model first count (Ok table) =
-    (ts : List Term) × (terms_of text ≡ accept ts) × Ruled model first count table ts
+-- What is told of the terms of a text: how many they are, and a table of those that rule a model on some days; or their
+-- refusal.
+abbrev pub RuledBy : List ℕ → ℕ → ℕ → ℕ → Result Scanned Refusal → Type 0
+RuledBy text model first count (Ok scanned) = (ts : List Term) × (terms_of text ≡ accept ts)
+    × (scanned.terms ≡ length ts) × Ruled model first count scanned.table ts
 RuledBy text model first count (Err r) = terms_of text ≡ refuse r.number r.line

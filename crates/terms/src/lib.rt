@@ -130,13 +130,16 @@ fn enter_days(table: &mut [Option<Entry>], days: Days, line: u32, term: &TermLin
     }
 }
 
-// Scans a text of terms, and tells those that rule a model on some days, or the refusal of the terms. The signing numbers
-// that occurred are marked.
-pub fn scan_terms(
-    text: &[u8],
-    model: u32,
-    days: Days,
-) -> Result<[Option<Entry>; MOST_DAYS], Refusal>
+// What a scan tells of terms: how many they are, and for each of some days what is kept of the term that rules.
+#[derive(Clone, Copy)]
+pub struct Scanned {
+    pub terms: usize,
+    pub table: [Option<Entry>; MOST_DAYS],
+}
+
+// Scans a text of terms, and tells how many they are and which rule a model on some days, or the refusal of the terms. The
+// signing numbers that occurred are marked.
+pub fn scan_terms(text: &[u8], model: u32, days: Days) -> Result<Scanned, Refusal>
     ensures { RuledBy text.now model days.first days.count result }
 {
     let mut marks = [0u64; MARK_WORDS];
@@ -163,5 +166,8 @@ pub fn scan_terms(
         at += term.end;
         line += 1;
     }
-    Ok(table)
+    Ok(Scanned {
+        terms: line as usize - 1,
+        table,
+    })
 }

@@ -8,19 +8,19 @@ use Rattle.language.proofs.Filling.{answer_refused}
 use Rattle.prices.specs.Reports.{days_from, cents_on}
 use Rattle.pricing.proofs.report_days.Goals as goal
 
-pub returns-in_err-table : goal.returns-in_err-table
-returns-in_err-table c =
+pub returns-in_err-scanned : goal.returns-in_err-scanned
+returns-in_err-scanned c =
     let p = err_from_is_err_and c.from_residual.result c.from_residual.ensures.1 in
     rw (p.1, p.2) (answer_refused 1 _ _ c.args.report.now
     (report_refused c.args.terms.now c.args.model _ _ (accept (days_from c.args.days.first c.args.days.count))
-    (rw c.in_err-table.was at c.scan_terms.ensures)))
+    (rw c.in_err-scanned.was at c.scan_terms.ensures)))
 
 pub write_report-requires : goal.write_report-requires
-write_report-requires c = let r = rw c.in_ok-table.was at c.scan_terms.ensures in
-    (cents_on c.args.model r.0, ruled_priced r.2 (terms_in_range c.args.terms.now r.0 r.1))
+write_report-requires c = let r = rw c.in_ok-scanned.was at c.scan_terms.ensures in
+    (cents_on c.args.model r.0, ruled_priced r.3 (terms_in_range c.args.terms.now r.0 r.1))
 
 pub returns : goal.returns
-returns c = let r = rw c.in_ok-table.was at c.scan_terms.ensures in
+returns c = let r = rw c.in_ok-scanned.was at c.scan_terms.ensures in
     rw (report_made c.args.terms.now c.args.model c.args.days.first c.args.days.count r.0 r.1)
     (c.write_report.ensures (cents_on c.args.model r.0)
-    (ruled_priced r.2 (terms_in_range c.args.terms.now r.0 r.1)))
+    (ruled_priced r.3 (terms_in_range c.args.terms.now r.0 r.1)))
