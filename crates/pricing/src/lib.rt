@@ -65,7 +65,8 @@ fn find_end(table: &[Option<Entry>], i: usize, count: usize, cents: u32) -> usiz
 // most 31 days.
 fn write_runs(table: &[Option<Entry>], days: Days, held: &mut [u8]) -> usize
     requires { (most_report ≤ length held.old) ×
-        ((price : ℕ → Option ℕ) × Priced price days.first days.count table.now) }
+        ((price : ℕ → Option ℕ) × Priced price days.first days.count table.now)
+        × (days.first + days.count ≤ last_day + 1) }
     ensures { (result ≤ most_report) × ((price : ℕ → Option ℕ) → Priced price days.first days.count table.now
         → (result ≡ length (run_lines (price_runs price days.first days.count)))
         × (held.new ≡ sets held.old 0 (run_lines (price_runs price days.first days.count)))) }
@@ -88,7 +89,8 @@ fn write_runs(table: &[Option<Entry>], days: Days, held: &mut [u8]) -> usize
 // Writes the lines of the runs of a table into a report. They are written aside first, and copied if they fit, so that a
 // refusal changes nothing.
 fn write_report(table: &[Option<Entry>], days: Days, report: &mut [u8]) -> Result<usize, Refusal>
-    requires { (price : ℕ → Option ℕ) × Priced price days.first days.count table.now }
+    requires in_range { days.first + days.count ≤ last_day + 1 }
+    requires priced { (price : ℕ → Option ℕ) × Priced price days.first days.count table.now }
     ensures { (price : ℕ → Option ℕ) → Priced price days.first days.count table.now
         → (result
         ≡ answer 1 (accept (run_lines (price_runs price days.first days.count))) (length report.old))
@@ -171,6 +173,7 @@ pub fn price_on_date(
 
 // The report of some days.
 fn report_days(terms: &[u8], model: u32, days: Days, report: &mut [u8]) -> Result<usize, Refusal>
+    requires { days.first + days.count ≤ last_day + 1 }
     ensures { (result ≡ answer 1 (days_report terms.now model (accept (days_from days.first days.count)))
         (length report.old))
         × (report.new ≡ buffer (days_report terms.now model (accept (days_from days.first days.count)))

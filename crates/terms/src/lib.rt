@@ -2,6 +2,7 @@
 #![tactic(auto)]
 
 ghost use Rattle.std.specs.Prelude.{◌≡◌, ◌+◌, ◌/◌, ◌%◌, ◌≤◌, ◌<◌, length, get_or, set};
+ghost use Rattle.language.specs.Refusals.{refusal};
 ghost use Rattle.language.specs.Effects.{join, effect_of};
 ghost use Rattle.prices.specs.Terms.{first_number, term_line};
 ghost use Rattle.prices.specs.Prices.{covers};
@@ -22,12 +23,12 @@ const MARK_WORDS: usize = 1024;
 // The days of the longest month.
 pub const MOST_DAYS: usize = 31;
 
-// Consecutive days of the range, at most as many as the longest month has: the first, and how many.
+// Consecutive days from one of the range on, at most as many as the longest month has: the first, and how many.
 #[derive(Clone, Copy)]
 pub struct Days {
     pub first: u32,
     pub count: usize,
-    ghost in_range: { first + count ≤ last_day + 1 },
+    ghost in_range: { first ≤ last_day },
     ghost few: { count ≤ most_days },
 }
 
@@ -130,6 +131,13 @@ fn enter_days(table: &mut [Option<Entry>], days: Days, line: u32, term: &TermLin
     }
 }
 
+// A refusal on a line.
+fn refused(number: u32, line: u32) -> Refusal
+    ensures { result ≡ refusal number line }
+{
+    Refusal { number, line }
+}
+
 // What a scan tells of terms: how many they are, and for each of some days what is kept of the term that rules.
 #[derive(Clone, Copy)]
 pub struct Scanned {
@@ -148,16 +156,14 @@ pub fn scan_terms(text: &[u8], model: u32, days: Days) -> Result<Scanned, Refusa
     let mut line: u32 = 1;
     while at < text.len() {
         let Some(term) = read_term(&text[at..]) else {
-            return Err(Refusal {
-                number: LINE_REFUSAL,
-                line,
-            });
+            return Err(refused(LINE_REFUSAL, line)); // a malformed line
         };
-        if term.last < term.first || is_marked(&marks, term.signing) {
-            return Err(Refusal {
-                number: TERM_REFUSAL,
-                line,
-            });
+        if term.last < term.first {
+            return Err(refused(TERM_REFUSAL, line)); // the first day follows the last
+        }
+        let occurred = is_marked(&marks, term.signing);
+        if occurred {
+            return Err(refused(TERM_REFUSAL, line)); // a signing number that occurred
         }
         mark(&mut marks, term.signing);
         if term.model == model {

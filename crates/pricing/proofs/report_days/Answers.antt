@@ -1,4 +1,5 @@
 -- `pricing::report_days` meets its contract. Assumes nothing.
+use Rattle.std.proofs.Common.{arith}
 use Rattle.std.proofs.lemmas.Result.{err_from_is_err_and}
 use Rattle.pricing.proofs.Tables.{ruled_priced}
 use Rattle.pricing.proofs.Answers.{report_refused, report_made}
@@ -17,7 +18,10 @@ returns-in_err-scanned c =
 
 pub write_report-requires : goal.write_report-requires
 write_report-requires c = let r = rw c.in_ok-scanned.was at c.scan_terms.ensures in
-    (cents_on c.args.model r.0, ruled_priced r.3 (terms_in_range c.args.terms.now r.0 r.1))
+    record {
+      in_range = omega (arith, c.requires);
+      priced = (cents_on c.args.model r.0, ruled_priced r.3 (terms_in_range c.args.terms.now r.0 r.1));
+    }
 
 pub returns : goal.returns
 returns c = let r = rw c.in_ok-scanned.was at c.scan_terms.ensures in

@@ -37,6 +37,13 @@ invariant_of-report_days c =
     let b = month_bounds c.args.year c.args.month c.days_in-most.ensures first last in
     record { in_range = omega (arith, b.0, b.1); few = b.2 }
 
+pub report_days-requires : goal.report_days-requires
+report_days-requires c =
+    let first = sym c.day_of_date.ensures ∙ c.in-Ok.is in
+    let last = sym c.day_of_date-2.ensures ∙ c.in-Ok-day_of_date.is in
+    let b = month_bounds c.args.year c.args.month c.days_in-most.ensures first last in
+    omega (arith, b.0, b.1)
+
 pub returns : goal.returns
 returns c =
     let first = sym c.day_of_date.ensures ∙ c.in-Ok.is in

@@ -7,18 +7,17 @@ use Rattle.terms.proofs.Lines.{term_at}
 use Rattle.terms.proofs.Tables.{marks_none, ruled_none}
 use Rattle.terms.proofs.Entering.{entered_of, entered_other}
 use Rattle.terms.proofs.scan_terms.Goals.{then-term-model, else-term-model}
-use Rattle.terms.proofs.scan_terms.Goals.{then-term-via-then-term, then-term-via-else-term+then-is_marked}
 use Rattle.terms.proofs.scan_terms.Goals as goal
 
 pub loop-at-init : goal.loop-at-init
 loop-at-init c = scan_start _ _ _ _ _ _ marks_none (ruled_none c.args.model c.args.days.first c.args.days.count (omega arith))
 
 pub returns-in_default : goal.returns-in_default
-returns-in_default c = scan_malformed c.loop-at.invariant c.loop-at-test.true
-    (term_at c.loop-at.at c.args.text.now (sym c.read_term.ensures ∙ c.in_default.is))
+returns-in_default c = rw c.refused.ensures (scan_malformed c.loop-at.invariant c.loop-at-test.true
+    (term_at c.loop-at.at c.args.text.now (sym c.read_term.ensures ∙ c.in_default.is)))
 
-pub is_marked-requires : goal.is_marked-requires
-is_marked-requires c =
+pub is_marked-occurred-requires : goal.is_marked-occurred-requires
+is_marked-occurred-requires c =
     let term = term_at c.loop-at.at c.args.text.now (sym c.read_term.ensures ∙ c.in-Some.is) in (
       scan_signing c.loop-at.invariant c.loop-at-test.true _ _ _ _ _ _ term,
       c.loop-at.invariant.marked.long,
@@ -27,13 +26,13 @@ is_marked-requires c =
 pub returns-then-term : goal.returns-then-term
 returns-then-term c =
     let term = term_at c.loop-at.at c.args.text.now (sym c.read_term.ensures ∙ c.in-Some.is) in
-    elim c.then-term.branch [
-      | then-term-via-then-term w ↦
-          scan_reversed c.loop-at.invariant c.loop-at-test.true _ _ _ _ _ _ term w.if-term.true
-      | then-term-via-else-term+then-is_marked w ↦
-          scan_repeated c.loop-at.invariant c.loop-at-test.true _ _ _ _ _ _ term
-          (sym w.is_marked.ensures ∙ w.if-is_marked.true)
-    ]
+    rw c.refused-then-term.ensures (scan_reversed c.loop-at.invariant c.loop-at-test.true _ _ _ _ _ _ term c.if-term.true)
+
+pub returns-then-occurred : goal.returns-then-occurred
+returns-then-occurred c =
+    let term = term_at c.loop-at.at c.args.text.now (sym c.read_term.ensures ∙ c.in-Some.is) in
+    rw c.refused-then-occurred.ensures (scan_repeated c.loop-at.invariant c.loop-at-test.true _ _ _ _ _ _ term
+    (sym c.is_marked-occurred.ensures ∙ c.if-occurred.true))
 
 pub mark-requires : goal.mark-requires
 mark-requires c =
@@ -60,7 +59,7 @@ pub loop-at-preserved : goal.loop-at-preserved
 loop-at-preserved c =
     let term = term_at c.loop-at.at c.args.text.now (sym c.read_term.ensures ∙ c.in-Some.is) in
     scan_step c.loop-at.invariant c.loop-at-test.true _ _ _ _ _ _ term _ _ c.if-term.false
-    (sym c.is_marked.ensures ∙ c.if-is_marked.false) (omega arith) c.mark.ensures
+    (sym c.is_marked-occurred.ensures ∙ c.if-occurred.false) (omega arith) c.mark.ensures
     (elim c.if-term-model.branch [
       | then-term-model w ↦
           w.table-is ∙ w.enter_days.ensures ∙ entered_of _ _ _ _ _ _ _ _ w.if-term-model.true
