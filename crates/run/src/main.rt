@@ -2,7 +2,7 @@
 // One byte more is read than a program may hold, so that a longer input shows. An output has at most 8,192 bytes, as
 // many as are held aside for it, so the answer is never a refusal. Input that is closed or cannot be read counts as ended
 // there; output that cannot be written is an error, with which the program ends.
-// Kept: two programs of one shape. Each is a crate with a `main` of its own, and they differ in the function of console that they call.
+// Kept: two programs of one shape, which document 01 names. They differ in the function of console that they call, which takes what they share.
 #![tactic(auto)]
 
 use std::io;

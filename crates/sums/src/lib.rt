@@ -51,7 +51,7 @@ fn find(table: &[u32], heads: &[u16], nexts: &[u16], model: u32) -> Option<usize
     ensures { (n : ℕ) → Sums table.now heads.now nexts.now n
         → Found table.now n model result }
 {
-    // Kept: the chains are u16 in lent memory, where 0 stands for no entry; an Option there would take twice the room.
+    // Kept: 0 ends a chain, as `Chained` of specs/Window counts entries from 1 in the lent u16 of the chains.
     let mut e = usize::from(heads[bucket(model, heads.len())]);
     while e != 0 {
         if table[(e - 1) * LINE_SIZE] == model {
