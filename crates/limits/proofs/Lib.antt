@@ -1,3 +1,4 @@
 pub mod Told
 pub mod Standing
-pub mod Walks
+pub mod ReservedNames
+pub mod FieldLimits

@@ -1,7 +1,7 @@
 use mathlib.Core.Path.{sym, ◌∙◌}
 use native.Mathlib.Omega.{arith}
-use Rattle.limits.proofs.Walks.{counted_known, counted_above, counted_run, counted_stand}
-use Rattle.limits.proofs.Walks.{fields_end, fields_stop, fields_more}
+use Rattle.limits.proofs.FieldLimits.{counted_known, counted_above, counted_run, counted_stand}
+use Rattle.limits.proofs.FieldLimits.{fields_end, fields_stop, fields_more}
 use Rattle.limits.proofs.check_fields.Goals as goal
 
 pub class_entry-inherited-requires : goal.class_entry-inherited-requires

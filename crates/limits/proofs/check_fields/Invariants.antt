@@ -1,5 +1,5 @@
 use Prim.Native.Nat.{◌-◌}
-use Rattle.limits.proofs.Walks.{FieldsWalked}
+use Rattle.limits.proofs.FieldLimits.{FieldsWalked}
 use Rattle.limits.proofs.check_fields.Given as goal
 
 abbrev pub invariant-loop-inherited : goal.invariant-loop-inherited

@@ -1,7 +1,7 @@
 use Rattle.std.proofs.Common.{◌+◌, ◌-◌}
 use native.Mathlib.Omega.{arith}
 use Rattle.emitters.proofs.Lines.{field_in}
-use Rattle.limits.proofs.Walks.{names_row, names_end, names_stop, names_more}
+use Rattle.limits.proofs.ReservedNames.{names_row, names_end, names_stop, names_more}
 use Rattle.limits.proofs.check_names.Goals as goal
 
 pub overflow_add-row-end : goal.overflow_add-row-end

@@ -1,4 +1,4 @@
-use Rattle.limits.proofs.Walks.{NamesWalked}
+use Rattle.limits.proofs.ReservedNames.{NamesWalked}
 use Rattle.limits.proofs.check_names.Given as goal
 
 abbrev pub invariant-loop-row : goal.invariant-loop-row

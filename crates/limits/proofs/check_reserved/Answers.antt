@@ -1,7 +1,7 @@
 use mathlib.Core.Path.{sym, ◌∙◌}
 use native.Mathlib.Omega.{arith}
 use Rattle.limits.proofs.Standing.{class_known, class_run, class_fields, class_stand}
-use Rattle.limits.proofs.Walks.{classes_end, classes_stop, classes_more}
+use Rattle.limits.proofs.ReservedNames.{classes_end, classes_stop, classes_more}
 use Rattle.std.proofs.lemmas.Result.{err_from_is_err_and}
 use Rattle.limits.proofs.check_reserved.Goals as goal
 

@@ -1,5 +1,5 @@
 use Prim.Native.Nat.{◌-◌}
-use Rattle.limits.proofs.Walks.{ClassesWalked}
+use Rattle.limits.proofs.ReservedNames.{ClassesWalked}
 use Rattle.limits.proofs.check_reserved.Given as goal
 
 abbrev pub invariant-loop-fields : goal.invariant-loop-fields
