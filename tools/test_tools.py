@@ -302,6 +302,8 @@ pub extern "C" fn sum_rows(rows: &[u32], total: &mut u32, counts: &mut [u32], fr
     let part = &rows[0..4];
     counts[0] = rows::number(part, 0);
     *total += part[counts[0] as usize];
+    let held = Held { part };
+    *total += held.part[from as usize];
     from
 }
 '''
@@ -356,6 +358,15 @@ pub fn number(rows: &[u32], row: usize) -> u32
         self.assertIn('let part = &rows[0..4];', services)
         self.assertIn('(*unsafe { counts.get_unchecked_mut(0) }) = crate::rows::number(part, 0);', services)
         self.assertIn('(*unsafe { part.get_unchecked((*unsafe { counts.get_unchecked(0) }) as usize) })', services)
+        self.assertIn('*total += (*unsafe { held.part.get_unchecked(from as usize) });', services)
+
+    def test_unchecked_indices_of_the_repository(self):
+        os.chdir(REPOSITORY)
+        crates = twin.crates_below(twin.ROOT)
+        files = [file for crate in crates for file, _ in twin.sources(crate)]
+        self.assertIn('crates/evaluator/src/lib.rt', files)
+        for file in files:
+            self.assertNotIn('.(', twin.without_checks(twin.rust_of(file, crates)), file)
 
     def test_slices_cross_as_pointer_and_length(self):
         crossed = self.written('guarded/src/c.rs')

@@ -132,9 +132,9 @@ def without_ghosts(text):
 
 
 def without_checks(text):
-    """Turns each `name[index]` into an access that is not checked; a slice `name[a..b]` stays."""
+    """Turns each `name[index]`, with the fields before the name, into an access that is not checked; a slice `name[a..b]` stays."""
     result, at = '', 0
-    for index in re.finditer(r'\b([a-z_]\w*)\[', text):
+    for index in re.finditer(r'(?<![\w.])((?:[a-z_]\w*\.)*[a-z_]\w*)\[', text):
         if index.start() < at:
             continue
         end = closing(text, index.end() - 1)
