@@ -251,3 +251,10 @@ pub handed_text : (text text' old new : List ℕ) (r : Result ℕ Refusal) → t
     → (r ≡ answer 1 (accept text) (length old)) × (new ≡ buffer (accept text) old)
     → (r ≡ answer 1 (accept text') (length old)) × (new ≡ buffer (accept text') old)
 handed_text text text' old new r e h = rw e at h
+
+-- no more than the lent output holds
+pub counted_within : (m : Checked (List ℕ)) (old new : List ℕ) (r : Result ℕ Refusal) (n : ℕ)
+    → (r ≡ answer 1 m (length old)) × (new ≡ buffer m old) → r ≡ Ok n → n ≤ length new
+counted_within m old new r n h d =
+    let k = answer_done_inv 1 m old new n (sym h.0 ∙ d) h.1 in
+    omega (arith, k.count, k.fits, ap length h.1 ∙ buffer_long m old)

@@ -131,7 +131,7 @@ pub record Started (T T' : List ℕ) (k over : ℕ) : Type 0 where
   pub second : (x : ℕ) → x < 62 → get_or T' (k * 576 + 514 + x) 0 ≡ get_or T (over * 576 + 514 + x) 0
   pub high : (i : ℕ) → k * 576 + 576 ≤ i → get_or T' i 0 ≡ get_or T i 0
 
-both_copied : {T T₁ T₂ : List ℕ} {k over : ℕ} → over < k → Copied T T₁ (over * 576) (k * 576) 512
+pub both_copied : {T T₁ T₂ : List ℕ} {k over : ℕ} → over < k → Copied T T₁ (over * 576) (k * 576) 512
     → Copied T₁ T₂ (over * 576 + 514) (k * 576 + 514) 62 → Started T T₂ k over
 both_copied {k} {over} l a b = record {
   long = b.long ∙ a.long;

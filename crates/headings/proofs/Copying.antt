@@ -1,9 +1,9 @@
 -- What clearing and copying a part of the table of classes leave. Assumes nothing.
-use mathlib.Core.Path.{◌≡◌}
+use mathlib.Core.Path.{◌≡◌, refl}
 use mathlib.Core.List.{List, ◌++◌}
 use Prim.Native.Nat.{ℕ, ◌+◌, ◌≤◌, ◌<◌}
 use native.Mathlib.Omega.{arith}
-use lib.ListN.{length, get_or, drop, replicate}
+use lib.ListN.{length, get_or, set, drop, replicate}
 use Rattle.std.specs.List.{copy_within}
 use Rattle.std.proofs.lemmas.Grind.{common_steps}
 
@@ -33,3 +33,24 @@ copied T from end to n e l h = record {
   before = λ j p. grind (arith, common_steps);
   after = λ j p. grind (arith, common_steps);
 }
+
+pub copied_start : (T : List ℕ) (from to : ℕ) → Copied T T from to 0
+copied_start T from to = record {
+  long = refl;
+  part = λ i l. omega (arith, l);
+  before = λ j l. refl;
+  after = λ j l. refl;
+}
+
+pub copied_step : (T T' : List ℕ) (from to i : ℕ) → Copied T T' from to i → from + i < to → to + i < length T
+    → Copied T (set T' (to + i) (get_or T' (from + i) 0)) from to (i + 1)
+copied_step T T' from to i c h k = record {
+  long = grind (arith, common_steps, c.long);
+  part = λ j l. grind (arith, common_steps, c.long, c.part j, c.before (from + j));
+  before = λ j l. grind (arith, common_steps, c.before j l);
+  after = λ j l. grind (arith, common_steps, c.after j);
+}
+
+pub copied_on : (T T' : List ℕ) (from to i p q n : ℕ) → Copied T T' from to i → from + i < to → to + i < length T
+    → p ≡ from + i → q ≡ to + i → n ≡ i + 1 → Copied T (set T' q (get_or T' p 0)) from to n
+copied_on T T' from to i p q n c h k a b d = rw (a, b, d) (copied_step T T' from to i c h k)

@@ -75,8 +75,13 @@ fn start_block(tables: &mut [u16], k: usize, over: usize, kind: u32)
 {
     let base = k * CLASS_WIDTH;
     let from = over * CLASS_WIDTH;
-    tables.copy_within(from..from + KIND_PLACE, base);
-    tables.copy_within(from + ROOT_PLACE..from + CLASS_WIDTH, base + ROOT_PLACE);
+    // Kept: loops; `copy_within` goes down from the last number here, and takes longer.
+    for i in 0..KIND_PLACE {
+        tables[base + i] = tables[from + i];
+    }
+    for i in ROOT_PLACE..CLASS_WIDTH {
+        tables[base + i] = tables[from + i];
+    }
     if kind != STATE_KIND {
         tables[base + ROOT_PLACE] = k as u16;
     }

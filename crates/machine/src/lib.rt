@@ -78,9 +78,10 @@ fn run_start(
         calls: 0,
     };
     let outcome = evaluator::eval(program, store, slots, &mut tally, at, &place);
+    let steps = fuel - tally.left;
     Run {
         outcome: end_told(outcome),
-        steps: fuel - tally.left,
+        steps,
         objects: tally.made,
         changes: tally.changes,
     }

@@ -256,6 +256,9 @@ fn narrow(table: &mut [u32], heads: &mut [u16], nexts: &mut [u16], low: u64, w: 
 }
 
 // Narrows a full window, then takes a line of a model that has no sums in it.
+// Apart from `take`, whose other ways are of each line, so that these are short enough to be a part of a scan's loop.
+#[cold]
+#[inline(never)]
 fn take_narrowed(
     table: &mut [u32],
     heads: &mut [u16],
@@ -281,6 +284,7 @@ fn take_narrowed(
 
 // Takes a line into the sums of a window, unless it takes a sum past the largest: a line of a model outside the window is passed
 // over, and the window is narrowed where its table is full.
+#[inline(always)]
 pub fn take(
     table: &mut [u32],
     heads: &mut [u16],

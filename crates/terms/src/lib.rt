@@ -18,7 +18,7 @@ use prices::TermLine;
 const TERM_REFUSAL: u32 = 23;
 
 // One mark for each signing number, 64 to a word.
-const MARK_WORDS: usize = 1024;
+pub const MARK_WORDS: usize = 1024;
 
 // The days of the longest month.
 pub const MOST_DAYS: usize = 31;

@@ -1,16 +1,18 @@
 // From rows to lines of text: the writer (document 01, "Lines and rows").
 #![tactic(auto)]
 
-ghost use Rattle.std.specs.Prelude.{◌≡◌, true, ◌⊎◌, ◌+◌, ◌*◌, ◌≤◌, ◌<◌, length};
+ghost use Rattle.std.specs.Prelude.{ℕ, ◌≡◌, true, ◌⊎◌, ◌+◌, ◌*◌, ◌≤◌, ◌<◌, length};
 ghost use Rattle.std.proofs.lemmas.List.Edits.{sets};
-ghost use Rattle.language.specs.Rows.{numbers_after};
+ghost use Rattle.language.specs.Rows.{numbers_after, row, is_row};
 ghost use Rattle.language.specs.Alphabet.{ours};
 ghost use Rattle.language.specs.Filling.{answer, buffer, tally, is_made, made_numbers};
 ghost use Rattle.language.specs.TextLines.{line_text};
 ghost use Rattle.language.specs.Texts.{write_rows};
 ghost use Rattle.language.specs.Limits.{of_check};
 
-use language::{LIMIT_REFUSAL, LINE_REFUSAL, MOST_ROWS, NUMBERS_A_ROW, ROOM_REFUSAL, Refusal};
+use language::{
+    LARGEST, LIMIT_REFUSAL, LINE_REFUSAL, MOST_ROWS, NUMBERS_A_ROW, ROOM_REFUSAL, Refusal,
+};
 
 // The bytes that a row's line has at most.
 const MOST_BYTES: usize = 14;
@@ -26,14 +28,29 @@ const MIDDLE_ROOM: usize = MOST_BYTES * MANY_ROWS;
 
 const MOST_ROOM: usize = MOST_BYTES * MOST_ROWS as usize;
 
-// Writes the line of a row at a place, and answers the place after it.
-fn write_line(text: &mut [u8], at: usize, code: u32, a: u32, b: u32) -> usize
-    requires { (numbers_after code < 3) × (at + length (line_text ours code a b) ≤ length text.old) }
+// Is this a row of a letter that takes `count` numbers: these in range, the rest 0.
+// Kept apart from `language::is_row`, which looks the letter up once more. Each case tests all three numbers, so that the
+// count is told apart once.
+#[tactic(auto, using(language::proofs::Rows::is_row_by))]
+fn are_numbers(count: u32, a: u32, b: u32, c: u32) -> bool
+    ensures { (code : ℕ) → numbers_after code ≡ count → result ≡ is_row (row code a b c) }
+{
+    match count {
+        0 => a == 0 && b == 0 && c == 0,
+        1 => a <= LARGEST && b == 0 && c == 0,
+        2 => a <= LARGEST && b <= LARGEST && c == 0,
+        _ => false,
+    }
+}
+
+// Writes the line of a row at a place, and answers the place after it. As many numbers follow its letter as `count` says.
+fn write_line(text: &mut [u8], at: usize, code: u32, count: u32, a: u32, b: u32) -> usize
+    requires { (numbers_after code < 3) × (at + length (line_text ours code a b) ≤ length text.old)
+        × (count ≡ numbers_after code) }
     ensures { (result ≡ at + length (line_text ours code a b)) ×
         (text.new ≡ sets text.old at (line_text ours code a b)) }
 {
     text[at] = (code % 256) as u8;
-    let count = language::count_numbers(code);
     let mut end = at + 1;
     if 1 <= count {
         end = fields::write_number(text, end, a);
@@ -72,13 +89,14 @@ fn format_rows(rows: &[u32], held: &mut [u8]) -> Result<usize, Refusal>
             language::first(rows, at),
             language::second(rows, at),
         );
-        if !language::is_row(code, a, b, rows[at * NUMBERS_A_ROW + 3]) {
+        let count = language::count_numbers(code);
+        if !are_numbers(count, a, b, rows[at * NUMBERS_A_ROW + 3]) {
             return Err(Refusal {
                 number: LINE_REFUSAL,
                 line: at as u32 + 1,
             });
         }
-        end = write_line(held, end, code, a, b);
+        end = write_line(held, end, code, count, a, b);
     }
     Ok(end)
 }

@@ -23,10 +23,10 @@ returns-then-at c =
       λ m. formatting_over_held c.loop-at.invariant i (omega arith) m,
     )
 
-pub returns-then-not-is_row : goal.returns-then-not-is_row
-returns-then-not-is_row c =
+pub returns-then-not-are_numbers : goal.returns-then-not-are_numbers
+returns-then-not-are_numbers c =
     let i : c.loop-at.at * 4 < length c.args.rows.now = omega arith in
-    let bad = sym c.is_row.ensures ∙ c.if-not-is_row.true in (
+    let bad = sym (c.are_numbers.ensures _ (sym c.count_numbers-count.ensures)) ∙ c.if-not-are_numbers.true in (
       formatting_bad c.loop-at.invariant i (omega arith) _ _ _ _ c.letter_at-code.ensures c.first-a.ensures
           c.second-b.ensures refl bad,
       λ m. formatting_bad_held c.loop-at.invariant i (omega arith) _ _ _ _ c.letter_at-code.ensures c.first-a.ensures
@@ -36,16 +36,17 @@ returns-then-not-is_row c =
 pub write_line-end-requires : goal.write_line-end-requires
 write_line-end-requires c =
     let i : c.loop-at.at * 4 < length c.args.rows.now = omega arith in
-    let good = sym c.is_row.ensures ∙ c.if-not-is_row.false in (
+    let good = sym (c.are_numbers.ensures _ (sym c.count_numbers-count.ensures)) ∙ c.if-not-are_numbers.false in (
       row_known _ _ _ _ good,
       formatting_fits c.loop-at.invariant i (omega arith) _ _ _ _ c.letter_at-code.ensures c.first-a.ensures
           c.second-b.ensures refl good c.requires,
+      c.count_numbers-count.ensures,
     )
 
 pub loop-at-preserved : goal.loop-at-preserved
 loop-at-preserved c =
     let i : c.loop-at.at * 4 < length c.args.rows.now = omega arith in
-    let good = sym c.is_row.ensures ∙ c.if-not-is_row.false in
+    let good = sym (c.are_numbers.ensures _ (sym c.count_numbers-count.ensures)) ∙ c.if-not-are_numbers.false in
     let next : (c.loop-at.at + 1) * 4 ≡ c.loop-at.at * 4 + 4 = omega arith in
     rw next (formatting_step c.loop-at.invariant i (omega arith) _ _ _ _ c.letter_at-code.ensures c.first-a.ensures
     c.second-b.ensures refl good _ _ c.write_line-end.ensures.1 c.write_line-end.ensures.0)
