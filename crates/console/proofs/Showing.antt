@@ -252,7 +252,7 @@ pub handed_text : (text text' old new : List ℕ) (r : Result ℕ Refusal) → t
     → (r ≡ answer 1 (accept text') (length old)) × (new ≡ buffer (accept text') old)
 handed_text text text' old new r e h = rw e at h
 
--- no more than the lent output holds
+-- the bytes that the answer counts are in the lent output
 pub counted_within : (m : Checked (List ℕ)) (old new : List ℕ) (r : Result ℕ Refusal) (n : ℕ)
     → (r ≡ answer 1 m (length old)) × (new ≡ buffer m old) → r ≡ Ok n → n ≤ length new
 counted_within m old new r n h d =

@@ -1,5 +1,5 @@
 -- Laws of a class's block: how it starts, and that it is filled when the class has passed. Assumes nothing.
-use mathlib.Core.Path.{◌≡◌, refl, sym, ap, ◌∙◌}
+use mathlib.Core.Path.{◌≡◌, refl, sym, ap, subst, ◌∙◌}
 use mathlib.Core.Bool.{Bool}
 use mathlib.Core.Option.{Option, none, some}
 use mathlib.Core.List.{List, [], ◌++◌}
@@ -10,7 +10,6 @@ use borrow.Author.Tests.{eq-eqb, ne_eqb}
 use lib.Dec.{eqb}
 use lib.ListN.{length, get_or, set}
 use lib.Seq.{get_or-set_same, get_or-set_other}
-use Rattle.std.specs.List.{copy_within}
 use Rattle.language.specs.Lists.{nth, given, choice, map_option, Never, inj, nth_lt}
 use Rattle.language.specs.Tree.{Field, Declaration, Class}
 use Rattle.language.specs.World.{Method, place}
@@ -24,7 +23,7 @@ use Rattle.language.proofs.Lines.{less_or_same}
 use Rattle.members.specs.Blocks.{Block, Filled, Lookups, Working}
 use Rattle.members.specs.Numbers.{first_number, own_or, own_number}
 use Rattle.headings.specs.Ready.{StartReady}
-use Rattle.headings.proofs.Copying.{Copied, copied}
+use Rattle.headings.proofs.Copying.{Copied}
 use Rattle.members.proofs.Numbers.{first_after, own_numbered, own_numbers}
 use Rattle.members.proofs.Tables.{kind_numbers, lookups_same, lookups_set}
 
@@ -155,17 +154,11 @@ module _ {T : List ℕ} {k over kind : ℕ} (w : StartReady T k over kind) where
   pub start_index : (k * 576 + 576 ≤ length T) × (over < k) × (k ≤ 64)
   start_index = (omega (arith, within, w.lookups.long), w.earlier, omega (arith, within, w.lookups.few))
 
-  pub started : (T₁ T₂ : List ℕ) → T₁ ≡ copy_within T (over * 576) (over * 576 + 512) (k * 576)
-      → T₂ ≡ copy_within T₁ (over * 576 + 514) (over * 576 + 576) (k * 576 + 514) → Started T T₂ k over
-  started T₁ T₂ e f =
-      let j = start_index in
-      let a : Copied T T₁ (over * 576) (k * 576) 512 =
-      rw e (copied T (over * 576) (over * 576 + 512) (k * 576) 512 refl (omega (arith, j.1)) (omega (arith, j.0)))
-      in
-      let b : Copied T₁ T₂ (over * 576 + 514) (k * 576 + 514) 62 =
-      rw f (copied T₁ (over * 576 + 514) (over * 576 + 576) (k * 576 + 514) 62 (omega arith) (omega (arith, j.1))
-      (omega (arith, j.0, a.long))) in
-      both_copied w.earlier a b
+  -- the two parts of the earlier block were copied whole
+  pub started : {T₁ T₂ : List ℕ} {m n : ℕ} → m ≡ 512 → n ≡ 62 → Copied T T₁ (over * 576) (k * 576) m
+      → Copied T₁ T₂ (over * 576 + 514) (k * 576 + 514) n → Started T T₂ k over
+  started {T₁} {T₂} e f a b = both_copied w.earlier (subst (Copied T T₁ (over * 576) (k * 576)) e a)
+      (subst (Copied T₁ T₂ (over * 576 + 514) (k * 576 + 514)) f b)
 
   module _ {T' : List ℕ} (s : Started T T' k over) where
     lookups : Lookups w.P k T'

@@ -4,7 +4,6 @@ use mathlib.Core.List.{List, ◌++◌}
 use Prim.Native.Nat.{ℕ, ◌+◌, ◌≤◌, ◌<◌}
 use native.Mathlib.Omega.{arith}
 use lib.ListN.{length, get_or, set, drop, replicate}
-use Rattle.std.specs.List.{copy_within}
 use Rattle.std.proofs.lemmas.Grind.{common_steps}
 
 -- A part of a list was copied to a place after it.
@@ -25,15 +24,7 @@ cleared T S n l e = rw e (record {
   zero = λ i h. grind (arith, common_steps);
 })
 
-pub copied : (T : List ℕ) (from end to n : ℕ) → from + n ≡ end → end ≤ to → to + n ≤ length T
-    → Copied T (copy_within T from end to) from to n
-copied T from end to n e l h = record {
-  long = grind (arith, common_steps);
-  part = λ i p. grind (arith, common_steps);
-  before = λ j p. grind (arith, common_steps);
-  after = λ j p. grind (arith, common_steps);
-}
-
+-- A copy number by number: at its start, and after one more, wherever the code says it reads and writes.
 pub copied_start : (T : List ℕ) (from to : ℕ) → Copied T T from to 0
 copied_start T from to = record {
   long = refl;
@@ -42,15 +33,15 @@ copied_start T from to = record {
   after = λ j l. refl;
 }
 
-pub copied_step : (T T' : List ℕ) (from to i : ℕ) → Copied T T' from to i → from + i < to → to + i < length T
+copied_next : (T T' : List ℕ) (from to i : ℕ) → Copied T T' from to i → from + i < to → to + i < length T
     → Copied T (set T' (to + i) (get_or T' (from + i) 0)) from to (i + 1)
-copied_step T T' from to i c h k = record {
+copied_next T T' from to i c h k = record {
   long = grind (arith, common_steps, c.long);
   part = λ j l. grind (arith, common_steps, c.long, c.part j, c.before (from + j));
   before = λ j l. grind (arith, common_steps, c.before j l);
   after = λ j l. grind (arith, common_steps, c.after j);
 }
 
-pub copied_on : (T T' : List ℕ) (from to i p q n : ℕ) → Copied T T' from to i → from + i < to → to + i < length T
+pub copied_step : (T T' : List ℕ) (from to i p q n : ℕ) → Copied T T' from to i → from + i < to → to + i < length T
     → p ≡ from + i → q ≡ to + i → n ≡ i + 1 → Copied T (set T' q (get_or T' p 0)) from to n
-copied_on T T' from to i p q n c h k a b d = rw (a, b, d) (copied_step T T' from to i c h k)
+copied_step T T' from to i p q n c h k a b d = rw (a, b, d) (copied_next T T' from to i c h k)

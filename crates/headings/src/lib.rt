@@ -75,7 +75,7 @@ fn start_block(tables: &mut [u16], k: usize, over: usize, kind: u32)
 {
     let base = k * CLASS_WIDTH;
     let from = over * CLASS_WIDTH;
-    // Kept: loops; `copy_within` goes down from the last number here, and takes longer.
+    // Kept: loops that go up. `copy_within` goes down where it copies to a later place, which took longer.
     for i in 0..KIND_PLACE {
         tables[base + i] = tables[from + i];
     }

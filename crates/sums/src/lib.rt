@@ -256,7 +256,7 @@ fn narrow(table: &mut [u32], heads: &mut [u16], nexts: &mut [u16], low: u64, w: 
 }
 
 // Narrows a full window, then takes a line of a model that has no sums in it.
-// Apart from `take`, whose other ways are of each line, so that these are short enough to be a part of a scan's loop.
+// Out of line, since few lines come here: without it `take` is short enough to be inlined into the loop of a scan.
 #[cold]
 #[inline(never)]
 fn take_narrowed(

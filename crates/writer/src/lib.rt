@@ -28,9 +28,9 @@ const MIDDLE_ROOM: usize = MOST_BYTES * MANY_ROWS;
 
 const MOST_ROOM: usize = MOST_BYTES * MOST_ROWS as usize;
 
-// Is this a row of a letter that takes `count` numbers: these in range, the rest 0.
-// Kept apart from `language::is_row`, which looks the letter up once more. Each case tests all three numbers, so that the
-// count is told apart once.
+// Is this a row of a letter with `count` numbers: these in range, the rest 0.
+// Kept: beside `language::is_row`, which would look the letter up again. Each arm tests all three numbers, which makes faster
+// code than one test before the match.
 #[tactic(auto, using(language::proofs::Rows::is_row_by))]
 fn are_numbers(count: u32, a: u32, b: u32, c: u32) -> bool
     ensures { (code : ℕ) → numbers_after code ≡ count → result ≡ is_row (row code a b c) }
@@ -43,7 +43,7 @@ fn are_numbers(count: u32, a: u32, b: u32, c: u32) -> bool
     }
 }
 
-// Writes the line of a row at a place, and answers the place after it. As many numbers follow its letter as `count` says.
+// Writes the line of a row at a place, and answers the place after it. Its letter has `count` numbers.
 fn write_line(text: &mut [u8], at: usize, code: u32, count: u32, a: u32, b: u32) -> usize
     requires { (numbers_after code < 3) × (at + length (line_text ours code a b) ≤ length text.old)
         × (count ≡ numbers_after code) }

@@ -1,8 +1,8 @@
 -- `headings::start_block` meets its contract. Assumes nothing.
 use mathlib.Core.Path.{refl}
-use Rattle.std.proofs.Common.{arith, ◌≡◌, ◌+◌, ◌-◌, ◌*◌}
-use Rattle.headings.proofs.Classes.{start_index, both_copied, start_state, start_other}
-use Rattle.headings.proofs.Copying.{Copied, copied_on}
+use Rattle.std.proofs.Common.{arith, ◌-◌}
+use Rattle.headings.proofs.Classes.{start_index, started, start_state, start_other}
+use Rattle.headings.proofs.Copying.{copied_step}
 use Rattle.headings.proofs.start_block.Goals as goal
 
 pub overflow_mul-base : goal.overflow_mul-base
@@ -28,7 +28,7 @@ bounds-tables-base c =
 pub loop-i-preserved : goal.loop-i-preserved
 loop-i-preserved c =
     let j = start_index c.requires in
-    copied_on _ _ _ _ c.loop-i.i _ _ _ c.loop-i.invariant (omega (arith, j.1, c.loop-i-test.true))
+    copied_step _ _ _ _ c.loop-i.i _ _ _ c.loop-i.invariant (omega (arith, j.1, c.loop-i-test.true))
     (omega (arith, j.0, c.loop-i-test.true)) refl refl refl
 
 pub bounds-tables-from-in-loop-i-2 : goal.bounds-tables-from-in-loop-i-2
@@ -54,7 +54,7 @@ bounds-tables-base-in-loop-i-2 c =
 pub loop-i-2-preserved : goal.loop-i-2-preserved
 loop-i-2-preserved c =
     let j = start_index c.requires in
-    copied_on _ _ _ _ (c.loop-i-2.i - 514) _ _ _ c.loop-i-2.invariant (omega (arith, j.1, c.loop-i-2-test.true))
+    copied_step _ _ _ _ (c.loop-i-2.i - 514) _ _ _ c.loop-i-2.invariant (omega (arith, j.1, c.loop-i-2-test.true))
     (omega (arith, j.0, c.loop-i.invariant.long, c.loop-i-2-test.true)) (omega (arith, c.loop-i-2.auto.i))
     (omega (arith, c.loop-i-2.auto.i)) (omega (arith, c.loop-i-2.auto.i))
 
@@ -76,18 +76,12 @@ bounds-tables-base-then-kind-ne-STATE_KIND c =
 
 pub returns-then-kind-ne-STATE_KIND : goal.returns-then-kind-ne-STATE_KIND
 returns-then-kind-ne-STATE_KIND c = λ w.
-    let i : c.loop-i.i ≡ 512 = omega (arith, c.loop-i-test.false, c.loop-i.auto.i-end) in
-    let k : c.loop-i-2.i - 514 ≡ 62 = omega (arith, c.loop-i-2-test.false, c.loop-i-2.auto.i-end) in
-    let a : Copied _ c.loop-i.tables (c.args.over * 576) (c.args.k * 576) 512 = rw (← i) c.loop-i.invariant in
-    let b : Copied _ c.loop-i-2.tables (c.args.over * 576 + 514) (c.args.k * 576 + 514) 62 =
-    rw (← k) c.loop-i-2.invariant in
-    start_other w (both_copied w.earlier a b) c.if-kind-ne-STATE_KIND.true
+    start_other w (started w (omega (arith, c.loop-i-test.false, c.loop-i.auto.i-end))
+    (omega (arith, c.loop-i-2-test.false, c.loop-i-2.auto.i-end)) c.loop-i.invariant c.loop-i-2.invariant)
+    c.if-kind-ne-STATE_KIND.true
 
 pub returns-else-kind-ne-STATE_KIND : goal.returns-else-kind-ne-STATE_KIND
 returns-else-kind-ne-STATE_KIND c = λ w.
-    let i : c.loop-i.i ≡ 512 = omega (arith, c.loop-i-test.false, c.loop-i.auto.i-end) in
-    let k : c.loop-i-2.i - 514 ≡ 62 = omega (arith, c.loop-i-2-test.false, c.loop-i-2.auto.i-end) in
-    let a : Copied _ c.loop-i.tables (c.args.over * 576) (c.args.k * 576) 512 = rw (← i) c.loop-i.invariant in
-    let b : Copied _ c.loop-i-2.tables (c.args.over * 576 + 514) (c.args.k * 576 + 514) 62 =
-    rw (← k) c.loop-i-2.invariant in
-    start_state w (both_copied w.earlier a b) c.if-kind-ne-STATE_KIND.false
+    start_state w (started w (omega (arith, c.loop-i-test.false, c.loop-i.auto.i-end))
+    (omega (arith, c.loop-i-2-test.false, c.loop-i-2.auto.i-end)) c.loop-i.invariant c.loop-i-2.invariant)
+    c.if-kind-ne-STATE_KIND.false
