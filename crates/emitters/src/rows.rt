@@ -1,22 +1,64 @@
 // Lines written into the buffer, where there is room for their numbers.
-ghost use Rattle.std.specs.Prelude.{◌≡◌, ◌+◌, ◌*◌, ◌≤◌, ◌<◌, length, get_or};
+ghost use Rattle.std.specs.Prelude.{◌≡◌, ◌+◌, ◌*◌, ◌≤◌, ◌<◌, ◌∷◌, [], length, get_or, set};
+ghost use Rattle.std.proofs.lemmas.List.Edits.{sets};
 ghost use Rattle.emitters.specs.Lines.{most_numbers, all_numbers, plain_number, read_lines, slot_lines};
 ghost use Rattle.emitters.specs.Writing.{Written, SomeTypes, TypesWritten, SomeFieldLines};
 ghost use Rattle.emitters.specs.Writing.{FieldsWritten};
 
 use language::{FIELD, GET, ID, IDENTITY, SLOT, Type, first, second};
 
-// Lines one after another.
+// A number, where there is room for it.
+fn put_number(out: &mut [u32], place: usize, number: u32)
+    ensures { out.new ≡ set out.old place number }
+{
+    if place < out.len() {
+        out[place] = number;
+    }
+}
+
+// The numbers of one line, as far as there is room. Out of line and cold: the translator counts in an empty buffer and writes
+// where all has room, so that no service gets here.
+// Kept: one by one, and by value. A copy of a part makes the library for C need `memmove` besides `memcpy` and `memset`, and
+// lines lent to a call are kept in memory, also where all have room.
+#[cold]
+#[inline(never)]
+fn put_line(out: &mut [u32], place: usize, code: u32, a: u32, b: u32, c: u32)
+    requires { place + 4 ≤ most_numbers }
+    ensures { out.new ≡ sets out.old place (code ∷ a ∷ b ∷ c ∷ []) }
+{
+    put_number(out, place, code);
+    put_number(out, place + 1, a);
+    put_number(out, place + 2, b);
+    put_number(out, place + 3, c);
+}
+
+// Lines one after another, as far as there is room.
+#[inline(always)]
+fn put_part(out: &mut [u32], place: usize, lines: &[[u32; 4]])
+    requires { place + 4 * length lines.now ≤ most_numbers }
+    ensures { out.new ≡ sets out.old place (all_numbers lines.now) }
+{
+    let mut end = place;
+    for line in lines {
+        put_line(out, end, line[0], line[1], line[2], line[3]);
+        end += 4;
+    }
+}
+
+// Lines one after another. Inlined: each caller knows how many lines it has, and where all have room they are copied at once.
+#[inline(always)]
 pub fn put(out: &mut [u32], place: usize, lines: &[[u32; 4]]) -> usize
     requires { place + 4 * length lines.now ≤ most_numbers }
     ensures { Written (all_numbers lines.now) out.old out.new place result }
 {
     let numbers = lines.as_flattened();
-    if place < out.len() {
-        let n = numbers.len().min(out.len() - place);
-        out[place..place + n].copy_from_slice(&numbers[..n]);
+    let end = place + numbers.len();
+    if end <= out.len() {
+        out[place..end].copy_from_slice(numbers);
+    } else if place < out.len() {
+        put_part(out, place, lines);
     }
-    place + numbers.len()
+    end
 }
 
 // Declared class types become Identity, bool stays.

@@ -32,9 +32,9 @@ pub struct Next {
 impl Source<'_> {
     // The plain lines of the node at row `at`.
     #[cycle(nodes)]
-    pub fn emit_node(&self, out: &mut [u32], place: usize, at: usize, scope: Scope<'_>) -> Next
-        requires { given_in self.now scope SomeNode at place }
-        ensures { left_in self.now scope.entry NodeEmitted out.old out.new at place
+    pub fn emit_node(&self, out: &mut [u32], place: usize, at: usize, scope: &Scope<'_>) -> Next
+        requires { given_in self.now scope.now SomeNode at place }
+        ensures { left_in self.now scope.now NodeEmitted out.old out.new at place
             result.place result.at }
     {
         let letter = letter_at(self.rows, at);
@@ -97,9 +97,9 @@ impl Source<'_> {
 
     // K.
     #[cycle(nodes)]
-    fn emit_cast(&self, out: &mut [u32], place: usize, at: usize, scope: Scope<'_>) -> Next
-        requires { given_in self.now scope SomeCast at place }
-        ensures { left_in self.now scope.entry CastEmitted out.old out.new at place
+    fn emit_cast(&self, out: &mut [u32], place: usize, at: usize, scope: &Scope<'_>) -> Next
+        requires { given_in self.now scope.now SomeCast at place }
+        ensures { left_in self.now scope.now CastEmitted out.old out.new at place
             result.place result.at }
     {
         let object = scope.free;
@@ -113,9 +113,9 @@ impl Source<'_> {
         let p = put(out, place, &head);
         let inner = Scope {
             free: object + 1,
-            ..scope
+            ..*scope
         };
-        let r = self.emit_node(out, p, at + 1, inner);
+        let r = self.emit_node(out, p, at + 1, &inner);
         let tail = [
             [NULL, 0, 0, 0],
             [GET, ID, 0, 0],
@@ -129,9 +129,9 @@ impl Source<'_> {
 
     // U: the object and the value in temporaries, then the act.
     #[cycle(nodes)]
-    fn emit_set(&self, out: &mut [u32], place: usize, at: usize, scope: Scope<'_>) -> Next
-        requires { given_in self.now scope SomeSet at place }
-        ensures { left_in self.now scope.entry SetEmitted out.old out.new at place
+    fn emit_set(&self, out: &mut [u32], place: usize, at: usize, scope: &Scope<'_>) -> Next
+        requires { given_in self.now scope.now SomeSet at place }
+        ensures { left_in self.now scope.now SetEmitted out.old out.new at place
             result.place result.at }
     {
         let name = first(self.rows, at);
@@ -147,9 +147,9 @@ impl Source<'_> {
         let p = put(out, place, &head);
         let inner = Scope {
             free: object + 2,
-            ..scope
+            ..*scope
         };
-        let r = self.emit_arguments(out, p, at + 1, inner, 2, object);
+        let r = self.emit_arguments(out, p, at + 1, &inner, 2, object);
         let tail = [
             [SET, name, 0, 0],
             [CAST, class + 2, 0, 0],
@@ -163,9 +163,9 @@ impl Source<'_> {
 
     // Q: the receiver and the arguments in temporaries, then the call.
     #[cycle(nodes)]
-    fn emit_call(&self, out: &mut [u32], place: usize, at: usize, scope: Scope<'_>) -> Next
-        requires { given_in self.now scope SomeCall at place }
-        ensures { left_in self.now scope.entry CallEmitted out.old out.new at place
+    fn emit_call(&self, out: &mut [u32], place: usize, at: usize, scope: &Scope<'_>) -> Next
+        requires { given_in self.now scope.now SomeCall at place }
+        ensures { left_in self.now scope.now CallEmitted out.old out.new at place
             result.place result.at }
     {
         let name = first(self.rows, at);
@@ -180,9 +180,9 @@ impl Source<'_> {
         let p = put_types(self.rows, out, p, row + 1, count as usize, LOCAL);
         let inner = Scope {
             free: object + nodes,
-            ..scope
+            ..*scope
         };
-        let r = self.emit_arguments(out, p, at + 1, inner, nodes, object);
+        let r = self.emit_arguments(out, p, at + 1, &inner, nodes, object);
         let tail = [
             [CALL, name, count, 0],
             [CAST, class + 2, 0, 0],
@@ -196,22 +196,22 @@ impl Source<'_> {
 
     // B: its locals become slots of their own.
     #[cycle(nodes)]
-    fn emit_block(&self, out: &mut [u32], place: usize, at: usize, scope: Scope<'_>) -> Next
-        requires { given_in self.now scope SomeBlock at place }
-        ensures { left_in self.now scope.entry BlockEmitted out.old out.new at place
+    fn emit_block(&self, out: &mut [u32], place: usize, at: usize, scope: &Scope<'_>) -> Next
+        requires { given_in self.now scope.now SomeBlock at place }
+        ensures { left_in self.now scope.now BlockEmitted out.old out.new at place
             result.place result.at }
     {
         let locals = first(self.rows, at);
         let count = second(self.rows, at);
         let p = put(out, place, &[[BLOCK, locals, count, 0]]);
         let p = put_types(self.rows, out, p, at + 1, locals as usize, LOCAL);
-        let slots = with_locals(scope, locals as usize);
+        let slots = with_locals(*scope, locals as usize);
         let inner = Scope {
             slots: &slots,
             variables: scope.variables + locals as usize,
             free: scope.free + locals,
         };
-        self.emit_nodes(out, p, at + 1 + locals as usize, inner, count)
+        self.emit_nodes(out, p, at + 1 + locals as usize, &inner, count)
     }
 
     // Nodes one after another.
@@ -221,11 +221,11 @@ impl Source<'_> {
         out: &mut [u32],
         place: usize,
         at: usize,
-        scope: Scope<'_>,
+        scope: &Scope<'_>,
         count: u32,
     ) -> Next
-        requires { given_in self.now scope SomeNodes at place count }
-        ensures { left_in self.now scope.entry NodesEmitted out.old out.new at place count
+        requires { given_in self.now scope.now SomeNodes at place count }
+        ensures { left_in self.now scope.now NodesEmitted out.old out.new at place count
             result.place result.at }
     {
         let mut next = Next { place, at };
@@ -242,12 +242,12 @@ impl Source<'_> {
         out: &mut [u32],
         place: usize,
         at: usize,
-        scope: Scope<'_>,
+        scope: &Scope<'_>,
         count: u32,
         slot: u32,
     ) -> Next
-        requires { given_in self.now scope SomeArguments at place count slot }
-        ensures { left_in self.now scope.entry ArgumentsEmitted out.old out.new at place count slot
+        requires { given_in self.now scope.now SomeArguments at place count slot }
+        ensures { left_in self.now scope.now ArgumentsEmitted out.old out.new at place count slot
             result.place result.at }
     {
         let mut next = Next { place, at };

@@ -24,7 +24,7 @@ impl Source<'_> {
             variables: count + 1,
             free: count as u32 + 1,
         };
-        self.emit_node(out, place, at, scope)
+        self.emit_node(out, place, at, &scope)
     }
 
     // A method: its heading without X lines, then its body, which stands at row `body`.

@@ -1,33 +1,27 @@
-use mathlib.Core.Path.{◌∙◌}
-use mathlib.Core.Logic.{◌⊎◌, inl, inr}
-use Rattle.language.proofs.Lines.{le_or_less}
-use Rattle.std.proofs.Common.{◌≤◌, length, ◌+◌}
+use mathlib.Core.Path.{◌∙◌, sym}
+use mathlib.Core.Logic.{inl}
+use lib.ListN.{length}
+use lib.Seq.{take_all}
 use native.Mathlib.Omega.{arith}
 use Rattle.emitters.proofs.Writing.{put_past, put_room}
-use Rattle.emitters.proofs.rows.put.Goals.{then-place-out, else-place-out}
 use Rattle.emitters.proofs.rows.put.Goals as goal
 
-pub returns : goal.returns
-returns c =
+pub returns-then-end-out : goal.returns-then-end-out
+returns-then-end-out c =
     let numbers = c.as_flattened-numbers.result.now in
-    let O = c.args.out.now in
-    let place = c.args.place in
-    elim c.if-place-out.branch [
-      | then-place-out w ↦
-          let n = w.min-n.result in
-          let d : (length numbers ≤ n) ⊎ (length O ≤ place + n) = elim (le_or_less (length numbers) n) [
-            | inl h ↦ inl h
-            | inr h ↦ inr (omega (arith, w.min-n.ensures, h))
-          ] in
-          record {
-            content = w.out-is
-                ∙ put_room O numbers _ place n _ w.copy_from_slice.ensures.after (omega arith)
-                (omega (arith, w.min-n.ensures)) (omega (arith, w.min-n.ensures)) d
-                ∙ cc;
-            ended = cc;
-          }
-      | else-place-out w ↦ record {
-        content = let e = put_past O numbers place w.if-place-out.false in cc;
-        ended = cc;
-      }
-    ]
+    let n = length numbers in
+    let all = sym (take_all n numbers (omega arith)) in
+    record {
+      content = put_room c.args.out.now numbers _ c.args.place n _ (c.copy_from_slice.ensures.after ∙ all)
+          (omega arith) (omega arith) (omega arith) (inl (omega arith))
+          ∙ cc;
+      ended = cc;
+    }
+
+pub returns-else-place-out : goal.returns-else-place-out
+returns-else-place-out c =
+    let numbers = c.as_flattened-numbers.result.now in
+    record {
+      content = let e = put_past c.args.out.now numbers c.args.place c.if-place-out.false in cc;
+      ended = cc;
+    }
